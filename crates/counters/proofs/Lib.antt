@@ -1,0 +1,6 @@
+pub mod Counts
+pub mod Spans
+pub mod Movements
+pub mod Fit
+pub mod Applies
+pub mod Laws

@@ -1,0 +1,5 @@
+pub mod Bank
+pub mod Counts
+pub mod Kind
+pub mod Movements
+pub mod Spans

@@ -1,0 +1,4 @@
+pub mod bank;
+mod movement;
+mod object;
+mod span;

@@ -1,0 +1,57 @@
+// What an operation asks of the bank.
+ghost use mathlib.Core.Path.{_≡_};
+ghost use mathlib.Core.Bool.{_&&_};
+ghost use Rattle.objects.specs.Answers.{holding, same};
+ghost use Rattle.counters.specs.Bank.{in-range};
+ghost use Rattle.counters.specs.Counts.{ceiling};
+ghost use Rattle.counters.specs.Movements.{meant, Sane};
+use crate::bank::CEILING;
+use objects::codes;
+use objects::codes::Family;
+use objects::codes::FamilyPartialEq;
+use objects::records::Answer;
+use objects::records::AnswerPartialEq;
+use objects::records::Operation;
+
+#[derive(Clone, Copy, Debug)]
+pub enum Movement {
+    Add(u32, i64),
+    Take(u32, i64),
+    Read(u32),
+    Bad,
+}
+
+impl Movement {
+    pub fn of(operation: &Operation) -> Movement
+        ensures value { λ r. ⌜ r ≡ meant ceiling (now (operation .entry)) ⌝ }
+        ensures sane { λ r. ⌜ Sane ceiling r ⌝ }
+    {
+        let Operation {
+            code,
+            unit,
+            key,
+            amount,
+        } = *operation;
+        let Some(rule) = codes::rule_of(code) else {
+            return Movement::Bad;
+        };
+        if unit != 0 || rule.family != Family::Counter || key > rule.last_key {
+            return Movement::Bad;
+        }
+        if rule.changes && (amount < 1 || amount > CEILING) {
+            return Movement::Bad;
+        }
+        match code {
+            codes::ADD => Movement::Add(key, amount),
+            codes::TAKE => Movement::Take(key, amount),
+            _ => Movement::Read(key),
+        }
+    }
+}
+
+// Whether a read can have given this answer.
+pub fn is_reading(answer: Answer) -> bool
+    ensures { λ r. ⌜ r ≡ (same answer (holding (answer .value)) && in-range ceiling (answer .value)) ⌝ }
+{
+    answer == Answer::holding(answer.value) && answer.value >= 0 && answer.value <= CEILING
+}

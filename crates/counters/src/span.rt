@@ -1,0 +1,114 @@
+// Where on its counter a record applies, and how it moves it: what the bank's test compares.
+ghost use mathlib.Core.Path.{_≡_};
+ghost use Rattle.counters.specs.Counts.{ceiling};
+ghost use Rattle.counters.specs.Movements.{meant};
+ghost use Rattle.counters.specs.Spans.{Bounded, commuting, run-span, withdrawal-span};
+use crate::bank::CEILING;
+use crate::movement::Movement;
+use crate::movement::is_reading;
+use objects::records::Answer;
+use objects::records::AnswerPartialEq;
+use objects::records::Record;
+
+#[derive(Clone, Copy, Debug)]
+pub struct Span {
+    pub low: i64,
+    pub high: i64,
+    pub step: i64,
+}
+
+impl Span {
+    const EVERYWHERE: Span = Span {
+        low: 0,
+        high: CEILING,
+        step: 0,
+    };
+
+    const NOWHERE: Span = Span {
+        low: 1,
+        high: 0,
+        step: 0,
+    };
+
+    // Where the record runs.
+    pub fn of_run(record: &Record) -> Span
+        ensures { λ r. ⌜ r ≡ run-span ceiling (meant ceiling (now («record» .entry) .operation)) (now («record» .entry) .answer) ⌝ }
+    {
+        let answer = record.answer;
+        match Movement::of(&record.operation) {
+            Movement::Add(_, n) if answer == Answer::DONE => Span {
+                low: 0,
+                high: CEILING - n,
+                step: n,
+            },
+            Movement::Add(_, n) if answer == Answer::FULL => Span {
+                low: CEILING - n + 1,
+                high: CEILING,
+                step: 0,
+            },
+            Movement::Take(_, n) if answer == Answer::DONE => Span {
+                low: n,
+                high: CEILING,
+                step: -n,
+            },
+            Movement::Take(_, n) if answer == Answer::SHORT => Span {
+                low: 0,
+                high: n - 1,
+                step: 0,
+            },
+            Movement::Read(_) if is_reading(answer) => Span {
+                low: answer.value,
+                high: answer.value,
+                step: 0,
+            },
+            Movement::Bad if answer == Answer::BAD => Span::EVERYWHERE,
+            _ => Span::NOWHERE,
+        }
+    }
+
+    // Where the record's withdrawal applies.
+    pub fn of_withdrawal(record: &Record) -> Span
+        ensures { λ r. ⌜ r ≡ withdrawal-span ceiling (meant ceiling (now («record» .entry) .operation)) (now («record» .entry) .answer) ⌝ }
+    {
+        let answer = record.answer;
+        match Movement::of(&record.operation) {
+            Movement::Add(_, n) if answer == Answer::DONE => Span {
+                low: n,
+                high: CEILING,
+                step: -n,
+            },
+            Movement::Add(..) if answer == Answer::FULL => Span::EVERYWHERE,
+            Movement::Take(_, n) if answer == Answer::DONE => Span {
+                low: 0,
+                high: CEILING - n,
+                step: n,
+            },
+            Movement::Take(..) if answer == Answer::SHORT => Span::EVERYWHERE,
+            Movement::Read(_) if is_reading(answer) => Span::EVERYWHERE,
+            Movement::Bad if answer == Answer::BAD => Span::EVERYWHERE,
+            _ => Span::NOWHERE,
+        }
+    }
+
+    // Whether a withdrawal in `self` and a run in `later` commute at every count: `low` to `high` is where both apply.
+    fn commutes(self, later: Span) -> bool
+        requires { ⌜ Bounded self ⌝ ∗ ⌜ Bounded later ⌝ }
+        ensures { λ r. ⌜ r ≡ commuting self later ⌝ }
+    {
+        let low = self.low.max(later.low);
+        let high = self.high.min(later.high);
+        if low > high {
+            return true;
+        }
+        let still_applies = (low + later.step >= self.low) & (high + later.step <= self.high);
+        let still_runs = (low + self.step >= later.low) & (high + self.step <= later.high);
+        still_applies & still_runs
+    }
+}
+
+// The test of two records of one key.
+pub fn commute(earlier: &Record, later: &Record) -> bool
+    ensures { λ r. ⌜ r ≡ commuting (withdrawal-span ceiling (meant ceiling (now (earlier .entry) .operation)) (now (earlier .entry) .answer)) (run-span ceiling (meant ceiling (now (later .entry) .operation)) (now (later .entry) .answer)) ⌝ }
+{
+    Span::of_withdrawal(earlier).commutes(Span::of_run(later))
+}

@@ -1,0 +1,4 @@
+pub mod answers;
+pub mod codes;
+pub mod object;
+pub mod records;
