@@ -58,32 +58,32 @@ holds p q keep = ⊎-elim (or-left _ _) (λ meet. or-right _ _ (bounds meet)) (c
         let high = keep k (most .0) (most .1) in
         and-from _ _ (and-from _ _ (le-test (low .0 .0)) (le-test (high .0 .1))) (and-from _ _ (le-test (low .1 .0)) (le-test (high .1 .1)))
 
-abbrev key : Record → ℕ
+abbrev pub key : Record → ℕ
 key r = r .operation .key
 
 module _ (c : ℤ) (least : pos 0 ≤ℤ c) where
-  abbrev forth : Record → Span
+  abbrev pub forth : Record → Span
   forth r = run-span c (meant c (r .operation)) (r .answer)
 
-  abbrev back : Record → Span
+  abbrev pub back : Record → Span
   back r = withdrawal-span c (meant c (r .operation)) (r .answer)
 
-  fits : (r : Record) → Fit c (key r) (forth r) (back r)
+  pub fits : (r : Record) → Fit c (key r) (forth r) (back r)
   fits r = fit c (key r) (meant c (r .operation)) (r .answer) least (sane c (r .operation)) (names c (r .operation))
 
   -- where a record runs, and where its withdrawal applies
-  runs-in : (s t : List ℤ) (r : Record) → Counts c s → Runs (bank c) s r t → Ran-in (forth r) s (key r) t
+  pub runs-in : (s t : List ℤ) (r : Record) → Counts c s → Runs (bank c) s r t → Ran-in (forth r) s (key r) t
   runs-in s t r counts runs =
       subst (λ u. Ran-in (forth r) s (key r) u) (runs .ends)
       (subst (λ a. Ran-in (run-span c (meant c (r .operation)) a) s (key r) (ran c s (r .operation) .1)) (runs .answers)
       (run-told c least s counts (key r) (meant c (r .operation)) (sane c (r .operation)) (names c (r .operation))))
 
-  runs-at : (s : List ℤ) (r : Record) → Counts c s → In (forth r) (held s (key r)) → Runs (bank c) s r (moved s (key r) (forth r .step))
+  pub runs-at : (s : List ℤ) (r : Record) → Counts c s → In (forth r) (held s (key r)) → Runs (bank c) s r (moved s (key r) (forth r .step))
   runs-at s r counts h =
       let run = run-from c least s counts (key r) (meant c (r .operation)) (r .answer) (sane c (r .operation)) (names c (r .operation)) h in
       record { answers = run .0; ends = run .1 }
 
-  withdraws : (s : List ℤ) (r : Record) → Counts c s →
+  pub withdraws : (s : List ℤ) (r : Record) → Counts c s →
       ((v : List ℤ) → withdrawn c s r ≡ Some v → Ran-in (back r) s (key r) v) × (In (back r) (held s (key r)) → withdrawn c s r ≡ Some (moved s (key r) (back r .step)))
   withdraws s r counts = withdrawal-as c least s counts (key r) (meant c (r .operation)) (r .answer) (sane c (r .operation)) (names c (r .operation))
 

@@ -4,3 +4,4 @@ pub mod Movements
 pub mod Fit
 pub mod Applies
 pub mod Laws
+pub mod Withdrawals

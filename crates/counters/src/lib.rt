@@ -1,4 +1,4 @@
 pub mod bank;
 mod movement;
-mod object;
+pub mod object;
 mod span;

@@ -32,13 +32,13 @@ impl Movement {
             key,
             amount,
         } = *operation;
-        let Some(rule) = codes::rule_of(code) else {
+        let Some(row) = codes::rule_of(code) else {
             return Movement::Bad;
         };
-        if unit != 0 || rule.family != Family::Counter || key > rule.last_key {
+        if unit != 0 || row.family != Family::Counter || key > row.last_key {
             return Movement::Bad;
         }
-        if rule.changes && (amount < 1 || amount > CEILING) {
+        if row.changes && (amount < 1 || amount > CEILING) {
             return Movement::Bad;
         }
         match code {

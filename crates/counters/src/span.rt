@@ -2,7 +2,7 @@
 ghost use mathlib.Core.Path.{_≡_};
 ghost use Rattle.counters.specs.Counts.{ceiling};
 ghost use Rattle.counters.specs.Movements.{meant};
-ghost use Rattle.counters.specs.Spans.{Bounded, commuting, run-span, withdrawal-span};
+ghost use Rattle.counters.specs.Spans.{Bounded, commuting, run-span, span, withdrawal-span};
 use crate::bank::CEILING;
 use crate::movement::Movement;
 use crate::movement::is_reading;
@@ -30,37 +30,23 @@ impl Span {
         step: 0,
     };
 
+    fn new(low: i64, high: i64, step: i64) -> Span
+        ensures { λ r. ⌜ r ≡ span low high step ⌝ }
+    {
+        Span { low, high, step }
+    }
+
     // Where the record runs.
     pub fn of_run(record: &Record) -> Span
         ensures { λ r. ⌜ r ≡ run-span ceiling (meant ceiling (now («record» .entry) .operation)) (now («record» .entry) .answer) ⌝ }
     {
         let answer = record.answer;
         match Movement::of(&record.operation) {
-            Movement::Add(_, n) if answer == Answer::DONE => Span {
-                low: 0,
-                high: CEILING - n,
-                step: n,
-            },
-            Movement::Add(_, n) if answer == Answer::FULL => Span {
-                low: CEILING - n + 1,
-                high: CEILING,
-                step: 0,
-            },
-            Movement::Take(_, n) if answer == Answer::DONE => Span {
-                low: n,
-                high: CEILING,
-                step: -n,
-            },
-            Movement::Take(_, n) if answer == Answer::SHORT => Span {
-                low: 0,
-                high: n - 1,
-                step: 0,
-            },
-            Movement::Read(_) if is_reading(answer) => Span {
-                low: answer.value,
-                high: answer.value,
-                step: 0,
-            },
+            Movement::Add(_, n) if answer == Answer::DONE => Span::new(0, CEILING - n, n),
+            Movement::Add(_, n) if answer == Answer::FULL => Span::new(CEILING - n + 1, CEILING, 0),
+            Movement::Take(_, n) if answer == Answer::DONE => Span::new(n, CEILING, -n),
+            Movement::Take(_, n) if answer == Answer::SHORT => Span::new(0, n - 1, 0),
+            Movement::Read(_) if is_reading(answer) => Span::new(answer.value, answer.value, 0),
             Movement::Bad if answer == Answer::BAD => Span::EVERYWHERE,
             _ => Span::NOWHERE,
         }
@@ -72,17 +58,9 @@ impl Span {
     {
         let answer = record.answer;
         match Movement::of(&record.operation) {
-            Movement::Add(_, n) if answer == Answer::DONE => Span {
-                low: n,
-                high: CEILING,
-                step: -n,
-            },
+            Movement::Add(_, n) if answer == Answer::DONE => Span::new(n, CEILING, -n),
             Movement::Add(..) if answer == Answer::FULL => Span::EVERYWHERE,
-            Movement::Take(_, n) if answer == Answer::DONE => Span {
-                low: 0,
-                high: CEILING - n,
-                step: n,
-            },
+            Movement::Take(_, n) if answer == Answer::DONE => Span::new(0, CEILING - n, n),
             Movement::Take(..) if answer == Answer::SHORT => Span::EVERYWHERE,
             Movement::Read(_) if is_reading(answer) => Span::EVERYWHERE,
             Movement::Bad if answer == Answer::BAD => Span::EVERYWHERE,

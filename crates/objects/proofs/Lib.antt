@@ -1,2 +1,4 @@
 pub mod Undo
 pub mod Same
+pub mod Carry
+pub mod Retractions

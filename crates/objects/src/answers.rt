@@ -65,68 +65,57 @@ impl Answer {
 
     pub const DONE: Answer = Answer {
         tag: DONE,
-        place: 0,
-        value: 0,
+        ..Answer::BAD
     };
 
     pub const FULL: Answer = Answer {
         tag: FULL,
-        place: 0,
-        value: 0,
+        ..Answer::BAD
     };
 
     pub const SHORT: Answer = Answer {
         tag: SHORT,
-        place: 0,
-        value: 0,
+        ..Answer::BAD
     };
 
     pub const NEW: Answer = Answer {
         tag: NEW,
-        place: 0,
-        value: 0,
+        ..Answer::BAD
     };
 
     pub const ALREADY: Answer = Answer {
         tag: ALREADY,
-        place: 0,
-        value: 0,
+        ..Answer::BAD
     };
 
     pub const GONE: Answer = Answer {
         tag: GONE,
-        place: 0,
-        value: 0,
+        ..Answer::BAD
     };
 
     pub const ABSENT: Answer = Answer {
         tag: ABSENT,
-        place: 0,
-        value: 0,
+        ..Answer::BAD
     };
 
     pub const YES: Answer = Answer {
         tag: YES,
-        place: 0,
-        value: 0,
+        ..Answer::BAD
     };
 
     pub const NO: Answer = Answer {
         tag: NO,
-        place: 0,
-        value: 0,
+        ..Answer::BAD
     };
 
     pub const NOTHING: Answer = Answer {
         tag: NOTHING,
-        place: 0,
-        value: 0,
+        ..Answer::BAD
     };
 
     pub const CLOSED: Answer = Answer {
         tag: CLOSED,
-        place: 0,
-        value: 0,
+        ..Answer::BAD
     };
 
     // What a counter holds, or how many members a set has.
@@ -135,8 +124,8 @@ impl Answer {
     {
         Answer {
             tag: VALUE,
-            place: 0,
             value,
+            ..Answer::BAD
         }
     }
 
@@ -146,8 +135,8 @@ impl Answer {
     {
         Answer {
             tag: OLD,
-            place: 0,
             value,
+            ..Answer::BAD
         }
     }
 

@@ -46,67 +46,18 @@ const LAST_DAY: u32 = 511;
 
 const EVERY_KEY: u32 = u32::MAX;
 
-const CODES: [CodeRule; 10] = [
-    CodeRule {
-        code: ADD,
-        family: Family::Counter,
-        last_key: LAST_COUNTER,
-        changes: true,
-    },
-    CodeRule {
-        code: TAKE,
-        family: Family::Counter,
-        last_key: LAST_COUNTER,
-        changes: true,
-    },
-    CodeRule {
-        code: READ,
-        family: Family::Counter,
-        last_key: LAST_COUNTER,
-        changes: false,
-    },
-    CodeRule {
-        code: INSERT,
-        family: Family::Set,
-        last_key: LAST_MEMBER,
-        changes: true,
-    },
-    CodeRule {
-        code: REMOVE,
-        family: Family::Set,
-        last_key: LAST_MEMBER,
-        changes: true,
-    },
-    CodeRule {
-        code: HAS,
-        family: Family::Set,
-        last_key: LAST_MEMBER,
-        changes: false,
-    },
-    CodeRule {
-        code: SIZE,
-        family: Family::Set,
-        last_key: EVERY_KEY,
-        changes: false,
-    },
-    CodeRule {
-        code: PUT,
-        family: Family::Map,
-        last_key: LAST_DAY,
-        changes: true,
-    },
-    CodeRule {
-        code: DROP,
-        family: Family::Map,
-        last_key: LAST_DAY,
-        changes: true,
-    },
-    CodeRule {
-        code: FIND,
-        family: Family::Map,
-        last_key: LAST_DAY,
-        changes: false,
-    },
+// Each code with its family, the last key that it takes, and whether it changes the state.
+const CODES: [(u8, Family, u32, bool); 10] = [
+    (ADD, Family::Counter, LAST_COUNTER, true),
+    (TAKE, Family::Counter, LAST_COUNTER, true),
+    (READ, Family::Counter, LAST_COUNTER, false),
+    (INSERT, Family::Set, LAST_MEMBER, true),
+    (REMOVE, Family::Set, LAST_MEMBER, true),
+    (HAS, Family::Set, LAST_MEMBER, false),
+    (SIZE, Family::Set, EVERY_KEY, false),
+    (PUT, Family::Map, LAST_DAY, true),
+    (DROP, Family::Map, LAST_DAY, true),
+    (FIND, Family::Map, LAST_DAY, false),
 ];
 
 // The row of a code; none for a number that is no code.
@@ -116,5 +67,11 @@ pub fn rule_of(code: u8) -> Option<CodeRule>
     if code < ADD || code > FIND {
         return None;
     }
-    Some(CODES[code as usize - 1])
+    let (code, family, last_key, changes) = CODES[code as usize - 1];
+    Some(CodeRule {
+        code,
+        family,
+        last_key,
+        changes,
+    })
 }

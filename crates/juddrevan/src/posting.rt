@@ -1,0 +1,49 @@
+// One movement of a day: the order that it belongs to, what was asked and answered, and whether it still stands.
+use objects::answers;
+use objects::codes;
+use objects::records::Answer;
+use objects::records::Operation;
+use objects::records::Record;
+use std::fmt;
+
+#[derive(Clone, Copy)]
+pub struct Posting {
+    pub order: u16,
+    pub record: Record,
+    pub standing: bool,
+}
+
+pub impl fmt::Display for Posting as PostingDisplay {
+    fn fmt<W: fmt::Write>(&self, f: &mut fmt::Formatter<W>) -> fmt::Result {
+        let order = self.order;
+        let Operation {
+            code,
+            key,
+            amount,
+            ..
+        } = self.record.operation;
+        let answer = Told(self.record.answer);
+        match code {
+            codes::ADD => write!(f, "order {order} adds {amount} to bin {key}: {answer}"),
+            codes::TAKE => write!(f, "order {order} takes {amount} from bin {key}: {answer}"),
+            _ => write!(f, "order {order} reads bin {key}: {answer}"),
+        }
+    }
+}
+
+// An answer in words.
+#[derive(Drop)]
+struct Told(Answer);
+
+impl fmt::Display for Told as ToldDisplay {
+    fn fmt<W: fmt::Write>(&self, f: &mut fmt::Formatter<W>) -> fmt::Result {
+        let value = self.0.value;
+        match self.0.tag {
+            answers::DONE => write!(f, "done"),
+            answers::FULL => write!(f, "full"),
+            answers::SHORT => write!(f, "short"),
+            answers::VALUE => write!(f, "{value}"),
+            _ => write!(f, "bad"),
+        }
+    }
+}
