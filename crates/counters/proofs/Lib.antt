@@ -5,3 +5,4 @@ pub mod Fit
 pub mod Applies
 pub mod Laws
 pub mod Withdrawals
+pub mod Shifts

@@ -24,7 +24,7 @@ bits x = toZ w64 (ofZ w64 x)
 small-bits : (x : ℤ) → Small x → bits x ≡ x
 small-bits x h = toZ-ofZ w64 x (omega (arith, ints))
 
-small-sum : (x y : ℤ) → Small x → Small y → bits (bits x +ℤ bits y) ≡ x +ℤ y
+pub small-sum : (x y : ℤ) → Small x → Small y → bits (bits x +ℤ bits y) ≡ x +ℤ y
 small-sum x y hx hy = omega (arith, ints)
 
 small-max : (x y : ℤ) → Small x → Small y → Small (maxZ x y)

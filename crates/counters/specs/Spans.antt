@@ -8,6 +8,7 @@ use Rattle.objects.specs.declared.records.Answer.{Answer}
 use Rattle.objects.specs.declared.records.Record.{Record}
 use Rattle.objects.specs.Answers.{bad, done, full, short, holding, same}
 use Rattle.counters.specs.Bank.{in-range}
+use Rattle.counters.specs.Counts.{ceiling}
 use Rattle.counters.specs.Movements.{meant}
 use Rattle.counters.specs.declared.movement.Movement.{Movement}
 use Rattle.counters.specs.declared.movement.Movement.the-variants.{Add, Take, Read, Bad}
@@ -22,13 +23,6 @@ everywhere c = span (pos 0) c (pos 0)
 
 abbrev pub nowhere : Span
 nowhere = span (pos 1) (pos 0) (pos 0)
-
--- far from where 64 bits end
-abbrev pub Small : ℤ → Type 0
-Small x = (negℤ (pos 1000000) ≤ℤ x) × (x ≤ℤ pos 1000000)
-
-abbrev pub Bounded : Span → Type 0
-Bounded s = Small (s .low) × Small (s .high) × Small (s .step)
 
 -- where a record runs, and how it moves the count
 abbrev pub run-span : ℤ → Movement → Answer → Span
@@ -58,3 +52,10 @@ tested c p q =
     cond (eqb (p .operation .key) (q .operation .key))
     (commuting (withdrawal-span c (meant c (p .operation)) (p .answer)) (run-span c (meant c (q .operation)) (q .answer)))
     true
+
+-- what the code may add up in 64 bits
+abbrev pub Small : ℤ → Type 0
+Small x = (negℤ ceiling ≤ℤ x) × (x ≤ℤ ceiling)
+
+abbrev pub Bounded : Span → Type 0
+Bounded s = Small (s .low) × Small (s .high) × Small (s .step)

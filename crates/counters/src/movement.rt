@@ -49,9 +49,16 @@ impl Movement {
     }
 }
 
+// Whether a counter can hold this.
+pub fn in_range(count: i64) -> bool
+    ensures { λ r. ⌜ r ≡ in-range ceiling count ⌝ }
+{
+    count >= 0 && count <= CEILING
+}
+
 // Whether a read can have given this answer.
 pub fn is_reading(answer: Answer) -> bool
     ensures { λ r. ⌜ r ≡ (same answer (holding (answer .value)) && in-range ceiling (answer .value)) ⌝ }
 {
-    answer == Answer::holding(answer.value) && answer.value >= 0 && answer.value <= CEILING
+    answer == Answer::holding(answer.value) && in_range(answer.value)
 }

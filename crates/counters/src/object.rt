@@ -8,9 +8,9 @@ ghost use Rattle.counters.specs.Bank.{shifted};
 ghost use Rattle.counters.specs.Counts.{ceiling};
 ghost use Rattle.counters.specs.Kind.{bank};
 ghost use Rattle.counters.specs.Spans.{Small};
-use crate::bank::CEILING;
 use crate::bank::CounterBank;
 use crate::movement::Movement;
+use crate::movement::in_range;
 use crate::movement::is_reading;
 use crate::span::commute;
 use objects::object::Object;
@@ -27,7 +27,7 @@ impl CounterBank {
         ensures counts { λ _. ⌜ now (self .exit) .counts ≡ valueOr (shifted ceiling (now (self .entry) .counts) key by) (now (self .entry) .counts) ⌝ }
     {
         let next = self.counts[key as usize] + by;
-        if next < 0 || next > CEILING {
+        if !in_range(next) {
             return false;
         }
         self.counts[key as usize] = next;

@@ -1,14 +1,20 @@
-// A short day of two orders on a counter bank, and the first order taken back.
-mod day;
+// A short day of movements on a counter bank, and one order's movements taken back.
 mod posting;
-mod reading;
 
 use counters::bank::CounterBank;
 use counters::object::CounterBankObject;
 use objects::codes;
 use objects::object::Object;
 use objects::records::Operation;
+use objects::records::Record;
+use objects::retract::Retraction;
+use objects::retract::retract;
+use posting::BadLine;
+use posting::BadLineError;
 use posting::Posting;
+use posting::PostingDisplay;
+use std::alloc::AllocError;
+use std::alloc::Global;
 use std::error::AnyError;
 
 // The order that is taken back.
@@ -27,22 +33,126 @@ fn main(rt: LibcRuntime) -> Result<(), AnyError> {
 fn run(rt: &LibcRuntime) -> Result<(), AnyError> {
     let mut bank = CounterBank::new();
     println!(rt, "Posted:")?;
-    let mut postings = day::post(rt, &mut bank)?;
+    let mut postings = post_all(rt, &mut bank)?;
     let before = counts(&mut bank);
     println!(
         rt,
         "Order {ORDER} is taken back, its latest movement first:"
     )?;
-    day::take_back(rt, &mut bank, &mut postings, ORDER)?;
+    take_back(rt, &mut bank, &mut postings)?;
     let after = counts(&mut bank);
     let mut fresh = CounterBank::new();
-    day::replay(&mut fresh, postings.as_slice());
+    replay(&mut fresh, postings.as_slice());
     let never = counts(&mut fresh);
     println!(
         rt,
         "Bins before, after, and had the withdrawn movements never been posted:"
     )?;
     print_bins(rt, postings.as_slice(), &[before, after, never])
+}
+
+// Posts the movements that standard input names, one a line, and prints each with its answer.
+fn post_all(rt: &LibcRuntime, bank: &mut CounterBank) -> Result<Vec<Posting>, AnyError> {
+    let mut postings = Vec::new(rt.alloc());
+    for (i, line) in rt.lines(rt.alloc()).enumerate() {
+        let line = line?;
+        let number = i.saturating_add(1);
+        let (order, operation) = movement(line.as_str()).ok_or(BadLine(number))?;
+        let record = Record {
+            operation,
+            answer: bank.run(operation),
+        };
+        let posting = Posting {
+            order,
+            record,
+            standing: true,
+        };
+        println!(rt, "{number:>3}. {posting}")?;
+        postings.push(posting)?;
+    }
+    Ok(postings)
+}
+
+// The order and the operation of a line; none where the line is no movement.
+fn movement(line: &str) -> Option<(u16, Operation)> {
+    let mut words = line.split_whitespace();
+    let order = words.next()?.parse::<u16>().ok()?;
+    let code = code_of(words.next()?)?;
+    let key = words.next()?.parse::<u32>().ok()?;
+    let amount = words.next()?.parse::<i64>().ok()?;
+    if words.next().is_some() {
+        return None;
+    }
+    let operation = Operation {
+        code,
+        unit: 0,
+        key,
+        amount,
+    };
+    Some((order, operation))
+}
+
+fn code_of(word: &str) -> Option<u8> {
+    match word {
+        "add" => Some(codes::ADD),
+        "take" => Some(codes::TAKE),
+        "read" => Some(codes::READ),
+        _ => None,
+    }
+}
+
+// Takes the order's movements back, the latest first, each past all that still stands after it.
+fn take_back(
+    rt: &LibcRuntime,
+    bank: &mut CounterBank,
+    postings: &mut Vec<Posting>,
+) -> Result<(), AnyError> {
+    for i in (0..postings.len()).rev() {
+        let number = i.saturating_add(1);
+        let posting = postings[i];
+        if posting.order != ORDER {
+            continue;
+        }
+        let (places, later) = standing_after(rt.alloc(), postings.as_slice(), i)?;
+        match retract(bank, &posting.record, later.as_slice()) {
+            Retraction::Withdrawn => {
+                postings[i].standing = false;
+                println!(rt, "{number:>3}. withdrawn")?;
+            }
+            Retraction::Inapplicable => println!(rt, "{number:>3}. stays: it cannot have run")?,
+            Retraction::Blocked(at) => {
+                let other = places.get(at).copied().unwrap_or(at).saturating_add(1);
+                println!(rt, "{number:>3}. stays: {other} stands in the way")?;
+            }
+        }
+    }
+    Ok(())
+}
+
+// The standing movements after the one at index i: their indices and their records.
+fn standing_after(
+    heap: Global,
+    postings: &[Posting],
+    i: usize,
+) -> Result<(Vec<usize>, Vec<Record>), AllocError> {
+    let mut places = Vec::new(heap);
+    let mut records = Vec::new(heap);
+    for (at, posting) in postings.iter().enumerate() {
+        if at > i && posting.standing {
+            places.push(at)?;
+            records.push(posting.record)?;
+        }
+    }
+    Ok((places, records))
+}
+
+// Runs what still stands, and nothing else, on another bank.
+fn replay(bank: &mut CounterBank, postings: &[Posting]) {
+    for posting in postings {
+        if posting.standing {
+            let _ = bank.run(posting.record.operation);
+        }
+    }
 }
 
 // Prints, for each bin that a movement names, what it held each time.

@@ -4,6 +4,7 @@ use objects::codes;
 use objects::records::Answer;
 use objects::records::Operation;
 use objects::records::Record;
+use std::error::Error;
 use std::fmt;
 
 #[derive(Clone, Copy)]
@@ -22,7 +23,7 @@ pub impl fmt::Display for Posting as PostingDisplay {
             amount,
             ..
         } = self.record.operation;
-        let answer = Told(self.record.answer);
+        let answer = InWords(self.record.answer);
         match code {
             codes::ADD => write!(f, "order {order} adds {amount} to bin {key}: {answer}"),
             codes::TAKE => write!(f, "order {order} takes {amount} from bin {key}: {answer}"),
@@ -31,11 +32,10 @@ pub impl fmt::Display for Posting as PostingDisplay {
     }
 }
 
-// An answer in words.
 #[derive(Drop)]
-struct Told(Answer);
+struct InWords(Answer);
 
-impl fmt::Display for Told as ToldDisplay {
+impl fmt::Display for InWords as InWordsDisplay {
     fn fmt<W: fmt::Write>(&self, f: &mut fmt::Formatter<W>) -> fmt::Result {
         let value = self.0.value;
         match self.0.tag {
@@ -47,3 +47,16 @@ impl fmt::Display for Told as ToldDisplay {
         }
     }
 }
+
+// A line that is no movement, by its number.
+#[derive(Debug, Drop)]
+pub struct BadLine(pub usize);
+
+pub impl fmt::Display for BadLine as BadLineDisplay {
+    fn fmt<W: fmt::Write>(&self, f: &mut fmt::Formatter<W>) -> fmt::Result {
+        let line = self.0;
+        write!(f, "line {line} is not ORDER add|take|read BIN AMOUNT")
+    }
+}
+
+pub impl Error for BadLine as BadLineError {}
