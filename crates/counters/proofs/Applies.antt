@@ -17,9 +17,9 @@ use Rattle.objects.proofs.Same.{same-refl, same-true}
 use Rattle.counters.specs.declared.movement.Movement.{Movement}
 use Rattle.counters.specs.declared.movement.Movement.the-variants.{Add, Take, Read, Bad}
 use Rattle.counters.specs.declared.span.Span.{Span}
-use Rattle.counters.specs.Bank.{did, in-range, shifted, stayed, undone}
-use Rattle.counters.specs.Counts.{Counts, Within, held, moved}
-use Rattle.counters.specs.Movements.{Sane}
+use Rattle.counters.specs.Bank.{did, is-reading, shifted, stayed, undone}
+use Rattle.counters.specs.Bounds.{Sane}
+use Rattle.counters.specs.Counts.{Counts, Within, held, in-range, moved}
 use Rattle.counters.specs.Spans.{everywhere, nowhere, run-span, span, withdrawal-span}
 use Rattle.counters.proofs.Counts.{held-within, moved-nothing}
 use Rattle.counters.proofs.Fit.{In}
@@ -53,7 +53,7 @@ module _ (c : ℤ) (least : pos 0 ≤ℤ c) (s : List ℤ) (counts : Counts c s)
   run-told k (Read key) sane names =
       let x = held s key in
       let within = held-within c s key least counts in
-      let told : same (holding x) (holding x) && in-range c x ≡ true = grind (arith, ints) in
+      let told : is-reading c (holding x) ≡ true = grind (arith, ints) in
       subst (λ j. Told j (Read key) (holding x, s)) names
       (subst (λ p. Ran-in p s key s) (sym (cond-true _ (span x x (pos 0)) nowhere told)) ((omega (arith, ints), omega (arith, ints)), still key))
   run-told k Bad sane names = (held-within c s k least counts, still k)
@@ -85,7 +85,7 @@ module _ (c : ℤ) (least : pos 0 ≤ℤ c) (s : List ℤ) (counts : Counts c s)
       (λ _. nowhere-runs key (Take key n) a)))
   run-from k (Read key) a sane names =
       subst (λ j. Runs-as j (Read key) a (run-span c (Read key) a)) names
-      (cond-both (same a (holding (a .value)) && in-range c (a .value)) _ _ (Runs-as key (Read key) a)
+      (cond-both (is-reading c a) _ _ (Runs-as key (Read key) a)
       (λ e h. let read : a .value ≡ held s key = omega (arith, ints) in
       (ap holding (sym read) ∙ sym (same-true a (holding (a .value)) (and-parts _ _ e .0)), still key))
       (λ _. nowhere-runs key (Read key) a))
@@ -128,5 +128,5 @@ module _ (c : ℤ) (least : pos 0 ≤ℤ c) (s : List ℤ) (counts : Counts c s)
       let within = held-within c s key least counts in
       subst (λ j. Withdrawn-as j (undone c s (Take key n) a) (withdrawal-span c (Take key n) a)) names
       (either key (same a done) _ _ _ _ (shifts key (pos 0) (c -ℤ n) n (λ h. omega (arith, ints)) (λ h. omega (arith, ints))) (stay key (same a short)))
-  withdrawal-as k (Read key) a sane names = stay k (same a (holding (a .value)) && in-range c (a .value))
+  withdrawal-as k (Read key) a sane names = stay k (is-reading c a)
   withdrawal-as k Bad a sane names = stay k (same a bad)

@@ -12,9 +12,9 @@ use Rattle.objects.specs.Answers.{bad, done, full, holding, same, short}
 use Rattle.counters.specs.declared.movement.Movement.{Movement}
 use Rattle.counters.specs.declared.movement.Movement.the-variants.{Add, Take, Read, Bad}
 use Rattle.counters.specs.declared.span.Span.{Span}
-use Rattle.counters.specs.Bank.{in-range}
-use Rattle.counters.specs.Counts.{Within}
-use Rattle.counters.specs.Movements.{Amount, Sane}
+use Rattle.counters.specs.Bank.{is-reading}
+use Rattle.counters.specs.Bounds.{Amount, Sane}
+use Rattle.counters.specs.Counts.{Within, counters}
 use Rattle.counters.specs.Spans.{everywhere, nowhere, run-span, span, withdrawal-span}
 use Rattle.counters.proofs.Counts.{Movable}
 use Rattle.counters.proofs.Movements.{Names}
@@ -32,10 +32,10 @@ pub record Fit (c : ℤ) (k : ℕ) (run back : Span) : Type 0 where
   pub free : (x : ℤ) → In run x → run .step ≡ pos 0 → back ≡ everywhere c
   -- a record that is withdrawn somewhere runs somewhere; one of no counter runs wherever it is withdrawn
   pub met : (x : ℤ) → In back x → (y : ℤ) × In run y
-  pub loose : (k < 32) ⊎ ((x : ℤ) → In back x → In run x)
+  pub loose : (k < counters) ⊎ ((x : ℤ) → In back x → In run x)
 
 -- an add that was done, and a take: each is the other's withdrawal
-fit-added : (c : ℤ) (k : ℕ) (n : ℤ) → k < 32 → Amount c n → Fit c k (span (pos 0) (c -ℤ n) n) (span n c (negℤ n))
+fit-added : (c : ℤ) (k : ℕ) (n : ℤ) → k < counters → Amount c n → Fit c k (span (pos 0) (c -ℤ n) n) (span n c (negℤ n))
 fit-added c k n there amount = record {
   steady = inl there;
   opposite = omega (arith, ints);
@@ -47,7 +47,7 @@ fit-added c k n there amount = record {
   loose = inl there;
 }
 
-fit-taken : (c : ℤ) (k : ℕ) (n : ℤ) → k < 32 → Amount c n → Fit c k (span n c (negℤ n)) (span (pos 0) (c -ℤ n) n)
+fit-taken : (c : ℤ) (k : ℕ) (n : ℤ) → k < counters → Amount c n → Fit c k (span n c (negℤ n)) (span (pos 0) (c -ℤ n) n)
 fit-taken c k n there amount = record {
   steady = inl there;
   opposite = omega (arith, ints);
@@ -60,7 +60,7 @@ fit-taken c k n there amount = record {
 }
 
 -- a record that moves nothing and runs from low to high
-fit-still : (c : ℤ) (k : ℕ) (low high : ℤ) → pos 0 ≤ℤ low → low ≤ℤ high → high ≤ℤ c → (k < 32) ⊎ ((x : ℤ) → Within c x → In (span low high (pos 0)) x) → Fit c k (span low high (pos 0)) (everywhere c)
+fit-still : (c : ℤ) (k : ℕ) (low high : ℤ) → pos 0 ≤ℤ low → low ≤ℤ high → high ≤ℤ c → (k < counters) ⊎ ((x : ℤ) → Within c x → In (span low high (pos 0)) x) → Fit c k (span low high (pos 0)) (everywhere c)
 fit-still c k low high least order most place = record {
   steady = inr refl;
   opposite = refl;
@@ -98,7 +98,7 @@ fit c k (Take key n) a least sane names =
     choose (Fit c k) (same a done) _ _ _ _ (λ _. fit-taken c k n (omega arith) (sane .1))
     (λ _. choose (Fit c k) (same a short) _ _ _ _ (λ _. fit-still c k _ _ (omega (arith, ints)) (omega (arith, ints)) (omega (arith, ints)) (inl (omega arith))) (λ _. fit-never c k))
 fit c k (Read key) a least sane names =
-    choose (Fit c k) (same a (holding (a .value)) && in-range c (a .value)) _ _ _ _
+    choose (Fit c k) (is-reading c a) _ _ _ _
     (λ e. fit-still c k _ _ (grind (arith, ints)) (omega (arith, ints)) (grind (arith, ints)) (inl (omega arith)))
     (λ _. fit-never c k)
 fit c k Bad a least sane names =

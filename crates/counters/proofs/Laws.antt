@@ -20,10 +20,10 @@ use Rattle.objects.specs.declared.records.Record.{Record}
 use Rattle.objects.specs.Kinds.{Kind, Runs, Commutes, Laws}
 use Rattle.counters.specs.declared.span.Span.{Span}
 use Rattle.counters.specs.Bank.{did, ran, undone, withdrawn}
-use Rattle.counters.specs.Counts.{Counts, Within, held, moved}
+use Rattle.counters.specs.Counts.{Counts, counters, held, moved}
 use Rattle.counters.specs.Kind.{bank}
 use Rattle.counters.specs.Movements.{meant}
-use Rattle.counters.specs.Spans.{commuting, run-span, tested, withdrawal-span}
+use Rattle.counters.specs.Spans.{commuting, run-span, runs-in as span-of-run, tested, withdraws-in as span-of-withdrawal}
 use Rattle.counters.proofs.Applies.{Ran-in, run-from, run-told, withdrawal-as}
 use Rattle.counters.proofs.Counts.{Movable, counts-moved, counts-only, held-moved, held-only, held-other, moved-moved, moves-apart, moves-commute, only}
 use Rattle.counters.proofs.Fit.{Fit, In, fit}
@@ -63,10 +63,10 @@ key r = r .operation .key
 
 module _ (c : ℤ) (least : pos 0 ≤ℤ c) where
   abbrev pub forth : Record → Span
-  forth r = run-span c (meant c (r .operation)) (r .answer)
+  forth r = span-of-run c r
 
   abbrev pub back : Record → Span
-  back r = withdrawal-span c (meant c (r .operation)) (r .answer)
+  back r = span-of-withdrawal c r
 
   pub fits : (r : Record) → Fit c (key r) (forth r) (back r)
   fits r = fit c (key r) (meant c (r .operation)) (r .answer) least (sane c (r .operation)) (names c (r .operation))
@@ -184,7 +184,7 @@ module _ (c : ℤ) (least : pos 0 ≤ℤ c) where
           (cases-eq (key p) (key q)))
 
   -- at a state with the count x, where both apply, the two records tell what each does there
-  probe : (p q : Record) (x : ℤ) → key p ≡ key q → key p < 32 → Commutes (bank c) p q → In (back p) x → In (forth q) x → In (back p) (x +ℤ forth q .step) × In (forth q) (x +ℤ back p .step)
+  probe : (p q : Record) (x : ℤ) → key p ≡ key q → key p < counters → Commutes (bank c) p q → In (back p) x → In (forth q) x → In (back p) (x +ℤ forth q .step) × In (forth q) (x +ℤ back p .step)
   probe p q x e there commutes hp hq =
       let k = key p in
       let t = only k x in
@@ -210,7 +210,7 @@ module _ (c : ℤ) (least : pos 0 ≤ℤ c) where
       one e = ⊎-elim
           (λ there. holds (back p) (forth q) (λ x. probe p q x e there commutes))
           (λ still-p. ⊎-elim
-          (λ there. holds (back p) (forth q) (λ x. probe p q x e (subst (λ j. j < 32) (sym e) there) commutes))
+          (λ there. holds (back p) (forth q) (λ x. probe p q x e (subst (λ j. j < counters) (sym e) there) commutes))
           (λ still-q. holds (back p) (forth q) (λ x hp hq. (omega (arith, ints), omega (arith, ints))))
           (run-steady q))
           (back-steady p)

@@ -6,9 +6,10 @@ use lib.IntN.{ℤ}
 use Rattle.std.proofs.shelf.Signed.{ints}
 use Rattle.std.proofs.shelf.Ways.{tells}
 use Rattle.objects.specs.declared.records.Operation.{Operation}
+use Rattle.counters.specs.Bounds.{Sane}
 use Rattle.counters.specs.declared.movement.Movement.{Movement}
 use Rattle.counters.specs.declared.movement.Movement.the-variants.{Add, Take, Read, Bad}
-use Rattle.counters.specs.Movements.{meant, Sane}
+use Rattle.counters.specs.Movements.{meant}
 
 pub sane : (c : ℤ) (o : Operation) → Sane c (meant c o)
 sane c o = grind (arith, ints, tells)

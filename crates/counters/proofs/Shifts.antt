@@ -10,15 +10,15 @@ use Rattle.std.specs.Options.{isSome, valueOr}
 use Rattle.std.specs.declared.option.Option.{Option}
 use Rattle.std.specs.declared.option.Option.the-variants.{Some, None}
 use Rattle.std.proofs.shelf.Signed.{ints}
-use Rattle.counters.specs.Bank.{in-range, shifted}
-use Rattle.counters.specs.Counts.{Within, ceiling, held, moved}
-use Rattle.counters.specs.Spans.{Small}
+use Rattle.counters.specs.Bank.{shifted}
+use Rattle.counters.specs.Bounds.{Small}
+use Rattle.counters.specs.Counts.{Within, ceiling, held, in-range, moved}
 use Rattle.counters.proofs.Spans.{bits, small-sum}
 
 abbrev pub next : List ℤ → ℕ → ℤ → ℤ
 next s k by = bits (bits (held s k) +ℤ bits by)
 
-module _ (s : List ℤ) (k : ℕ) (by : ℤ) (within : Within ceiling (held s k)) (small : Small by) where
+module _ (s : List ℤ) (k : ℕ) (by : ℤ) (within : Within ceiling (held s k)) (small : Small ceiling by) where
   next-is : next s k by ≡ held s k +ℤ by
   next-is = small-sum (held s k) by (omega (arith, ints)) small
 

@@ -2,7 +2,7 @@
 use mathlib.Core.Bool.{Bool, cond, _&&_}
 use mathlib.Core.List.{List}
 use Prim.Native.Nat.{ℕ}
-use lib.IntN.{ℤ, pos, negℤ, _+ℤ_}
+use lib.IntN.{ℤ, negℤ, _+ℤ_}
 use lib.Signed.{leZ}
 use Rattle.std.specs.declared.option.Option.{Option}
 use Rattle.std.specs.declared.option.Option.the-variants.{Some, None}
@@ -10,13 +10,10 @@ use Rattle.objects.specs.declared.records.Operation.{Operation}
 use Rattle.objects.specs.declared.records.Answer.{Answer}
 use Rattle.objects.specs.declared.records.Record.{Record}
 use Rattle.objects.specs.Answers.{bad, done, full, short, holding, same}
-use Rattle.counters.specs.Counts.{held, moved}
+use Rattle.counters.specs.Counts.{held, in-range, moved}
 use Rattle.counters.specs.Movements.{meant}
 use Rattle.counters.specs.declared.movement.Movement.{Movement}
 use Rattle.counters.specs.declared.movement.Movement.the-variants.{Add, Take, Read, Bad}
-
-abbrev pub in-range : ℤ → ℤ → Bool
-in-range c x = leZ (pos 0) x && leZ x c
 
 abbrev pub did : ℤ → List ℤ → Movement → Answer × List ℤ
 did c s (Add k n) = cond (leZ (held s k +ℤ n) c) (done, moved s k n) (full, s)
@@ -31,6 +28,10 @@ ran c s o = did c s (meant c o)
 abbrev pub shifted : ℤ → List ℤ → ℕ → ℤ → Option (List ℤ)
 shifted c s k by = cond (in-range c (held s k +ℤ by)) (Some (moved s k by)) None
 
+-- an answer that a read can give
+abbrev pub is-reading : ℤ → Answer → Bool
+is-reading c a = same a (holding (a .value)) && in-range c (a .value)
+
 -- nothing moves where the answer is the one that leaves the counts; no other answer can have been given
 abbrev pub stayed : List ℤ → Bool → Option (List ℤ)
 stayed s can = cond can (Some s) None
@@ -39,7 +40,7 @@ stayed s can = cond can (Some s) None
 abbrev pub undone : ℤ → List ℤ → Movement → Answer → Option (List ℤ)
 undone c s (Add k n) a = cond (same a done) (shifted c s k (negℤ n)) (stayed s (same a full))
 undone c s (Take k n) a = cond (same a done) (shifted c s k n) (stayed s (same a short))
-undone c s (Read k) a = stayed s (same a (holding (a .value)) && in-range c (a .value))
+undone c s (Read k) a = stayed s (is-reading c a)
 undone c s Bad a = stayed s (same a bad)
 
 abbrev pub withdrawn : ℤ → List ℤ → Record → Option (List ℤ)

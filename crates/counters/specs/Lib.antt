@@ -1,4 +1,5 @@
 pub mod Bank
+pub mod Bounds
 pub mod Counts
 pub mod Kind
 pub mod Movements

@@ -1,9 +1,9 @@
 -- What an operation asks of a bank with the ceiling c.
 use mathlib.Core.Bool.{Bool, cond, _&&_}
-use Prim.Native.Nat.{ℕ, _≤_}
+use Prim.Native.Nat.{ℕ}
 use lib.Dec.{eqb, leb}
 use lib.IntN.{ℤ, pos}
-use lib.Signed.{leZ, _≤ℤ_}
+use lib.Signed.{leZ}
 use Rattle.objects.specs.declared.records.Operation.{Operation}
 use Rattle.counters.specs.declared.movement.Movement.{Movement}
 use Rattle.counters.specs.declared.movement.Movement.the-variants.{Add, Take, Read, Bad}
@@ -22,13 +22,3 @@ by-code c code key n =
 -- bad for a unit other than 0, a key above 31, a foreign code, an amount out of range
 abbrev pub meant : ℤ → Operation → Movement
 meant c o = cond (eqb (o .unit) 0 && leb (o .key) 31) (by-code c (o .code) (o .key) (o .amount)) Bad
-
-abbrev pub Amount : ℤ → ℤ → Type 0
-Amount c n = (pos 1 ≤ℤ n) × (n ≤ℤ c)
-
--- what is known of each movement that is meant
-abbrev pub Sane : ℤ → Movement → Type 0
-Sane c (Add key n) = (key ≤ 31) × Amount c n
-Sane c (Take key n) = (key ≤ 31) × Amount c n
-Sane c (Read key) = key ≤ 31
-Sane c Bad = Unit {0}

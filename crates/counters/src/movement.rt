@@ -1,11 +1,11 @@
 // What an operation asks of the bank.
 ghost use mathlib.Core.Path.{_≡_};
-ghost use mathlib.Core.Bool.{_&&_};
-ghost use Rattle.objects.specs.Answers.{holding, same};
-ghost use Rattle.counters.specs.Bank.{in-range};
+ghost use Rattle.counters.specs.Bank.{is-reading};
+ghost use Rattle.counters.specs.Bounds.{Sane};
 ghost use Rattle.counters.specs.Counts.{ceiling};
-ghost use Rattle.counters.specs.Movements.{meant, Sane};
+ghost use Rattle.counters.specs.Movements.{meant};
 use crate::bank::CEILING;
+use crate::bank::in_range;
 use objects::codes;
 use objects::codes::Family;
 use objects::codes::FamilyPartialEq;
@@ -38,27 +38,22 @@ impl Movement {
         if unit != 0 || row.family != Family::Counter || key > row.last_key {
             return Movement::Bad;
         }
+        // Of the counter's codes, those that change it take an amount.
         if row.changes && (amount < 1 || amount > CEILING) {
             return Movement::Bad;
         }
         match code {
             codes::ADD => Movement::Add(key, amount),
             codes::TAKE => Movement::Take(key, amount),
-            _ => Movement::Read(key),
+            codes::READ => Movement::Read(key),
+            _ => Movement::Bad,
         }
     }
 }
 
-// Whether a counter can hold this.
-pub fn in_range(count: i64) -> bool
-    ensures { λ r. ⌜ r ≡ in-range ceiling count ⌝ }
-{
-    count >= 0 && count <= CEILING
-}
-
 // Whether a read can have given this answer.
 pub fn is_reading(answer: Answer) -> bool
-    ensures { λ r. ⌜ r ≡ (same answer (holding (answer .value)) && in-range ceiling (answer .value)) ⌝ }
+    ensures { λ r. ⌜ r ≡ is-reading ceiling answer ⌝ }
 {
-    answer == Answer::holding(answer.value) && in_range(answer.value)
+    answer == Answer::value(answer.value) && in_range(answer.value)
 }

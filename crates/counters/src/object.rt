@@ -1,16 +1,16 @@
 // The bank as an object.
 ghost use mathlib.Core.Path.{_≡_};
 ghost use mathlib.Core.List.{List};
-ghost use Prim.Native.Nat.{_≤_};
+ghost use Prim.Native.Nat.{_<_};
 ghost use lib.IntN.{ℤ};
 ghost use Rattle.std.specs.Options.{isSome, valueOr};
 ghost use Rattle.counters.specs.Bank.{shifted};
-ghost use Rattle.counters.specs.Counts.{ceiling};
+ghost use Rattle.counters.specs.Counts.{ceiling, counters};
 ghost use Rattle.counters.specs.Kind.{bank};
-ghost use Rattle.counters.specs.Spans.{Small};
+ghost use Rattle.counters.specs.Bounds.{Small};
 use crate::bank::CounterBank;
+use crate::bank::in_range;
 use crate::movement::Movement;
-use crate::movement::in_range;
 use crate::movement::is_reading;
 use crate::span::commute;
 use objects::object::Object;
@@ -22,7 +22,7 @@ use objects::records::Record;
 impl CounterBank {
     // Moves a counter where it stays from 0 to the ceiling, and says whether it did.
     fn shift(&mut self, key: u32, by: i64) -> bool
-        requires { ⌜ key ≤ 31 ⌝ ∗ ⌜ Small by ⌝ }
+        requires { ⌜ key < counters ⌝ ∗ ⌜ Small ceiling by ⌝ }
         ensures moves { λ r. ⌜ r ≡ isSome (shifted ceiling (now (self .entry) .counts) key by) ⌝ }
         ensures counts { λ _. ⌜ now (self .exit) .counts ≡ valueOr (shifted ceiling (now (self .entry) .counts) key by) (now (self .entry) .counts) ⌝ }
     {
@@ -62,7 +62,7 @@ pub impl Object for CounterBank as CounterBankObject {
                     Answer::SHORT
                 }
             }
-            Movement::Read(key) => Answer::holding(self.counts[key as usize]),
+            Movement::Read(key) => Answer::value(self.counts[key as usize]),
             Movement::Bad => Answer::BAD,
         }
     }

@@ -1,8 +1,8 @@
 // Where on its counter a record applies, and how it moves it: what the bank's test compares.
 ghost use mathlib.Core.Path.{_≡_};
 ghost use Rattle.counters.specs.Counts.{ceiling};
-ghost use Rattle.counters.specs.Movements.{meant};
-ghost use Rattle.counters.specs.Spans.{Bounded, commuting, run-span, span, withdrawal-span};
+ghost use Rattle.counters.specs.Bounds.{Bounded};
+ghost use Rattle.counters.specs.Spans.{commuting, runs-in, span, tested-on-one-key, withdraws-in};
 use crate::bank::CEILING;
 use crate::movement::Movement;
 use crate::movement::is_reading;
@@ -38,7 +38,7 @@ impl Span {
 
     // Where the record runs.
     pub fn of_run(record: &Record) -> Span
-        ensures { λ r. ⌜ r ≡ run-span ceiling (meant ceiling (now («record» .entry) .operation)) (now («record» .entry) .answer) ⌝ }
+        ensures { λ r. ⌜ r ≡ runs-in ceiling (now («record» .entry)) ⌝ }
     {
         let answer = record.answer;
         match Movement::of(&record.operation) {
@@ -54,7 +54,7 @@ impl Span {
 
     // Where the record's withdrawal applies.
     pub fn of_withdrawal(record: &Record) -> Span
-        ensures { λ r. ⌜ r ≡ withdrawal-span ceiling (meant ceiling (now («record» .entry) .operation)) (now («record» .entry) .answer) ⌝ }
+        ensures { λ r. ⌜ r ≡ withdraws-in ceiling (now («record» .entry)) ⌝ }
     {
         let answer = record.answer;
         match Movement::of(&record.operation) {
@@ -70,7 +70,7 @@ impl Span {
 
     // Whether a withdrawal in `self` and a run in `later` commute at every count: `low` to `high` is where both apply.
     fn commutes(self, later: Span) -> bool
-        requires { ⌜ Bounded self ⌝ ∗ ⌜ Bounded later ⌝ }
+        requires { ⌜ Bounded ceiling self ⌝ ∗ ⌜ Bounded ceiling later ⌝ }
         ensures { λ r. ⌜ r ≡ commuting self later ⌝ }
     {
         let low = self.low.max(later.low);
@@ -86,7 +86,7 @@ impl Span {
 
 // The test of two records of one key.
 pub fn commute(earlier: &Record, later: &Record) -> bool
-    ensures { λ r. ⌜ r ≡ commuting (withdrawal-span ceiling (meant ceiling (now (earlier .entry) .operation)) (now (earlier .entry) .answer)) (run-span ceiling (meant ceiling (now (later .entry) .operation)) (now (later .entry) .answer)) ⌝ }
+    ensures { λ r. ⌜ r ≡ tested-on-one-key ceiling (now (earlier .entry)) (now (later .entry)) ⌝ }
 {
     Span::of_withdrawal(earlier).commutes(Span::of_run(later))
 }

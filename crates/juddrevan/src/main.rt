@@ -1,6 +1,8 @@
 // A short day of movements on a counter bank, and one order's movements taken back.
+
 mod posting;
 
+use counters::bank::COUNTERS;
 use counters::bank::CounterBank;
 use counters::object::CounterBankObject;
 use objects::codes;
@@ -11,11 +13,14 @@ use objects::retract::Retraction;
 use objects::retract::retract;
 use posting::BadLine;
 use posting::BadLineError;
+use posting::Later;
 use posting::Posting;
 use posting::PostingDisplay;
 use std::alloc::AllocError;
 use std::alloc::Global;
 use std::error::AnyError;
+
+type Counts = [i64; COUNTERS];
 
 // The order that is taken back.
 const ORDER: u16 = 1;
@@ -48,7 +53,7 @@ fn run(rt: &LibcRuntime) -> Result<(), AnyError> {
         rt,
         "Bins before, after, and had the withdrawn movements never been posted:"
     )?;
-    print_bins(rt, postings.as_slice(), &[before, after, never])
+    print_bins(rt, postings.as_slice(), &before, &after, &never)
 }
 
 // Posts the movements that standard input names, one a line, and prints each with its answer.
@@ -113,15 +118,15 @@ fn take_back(
         if posting.order != ORDER {
             continue;
         }
-        let (places, later) = standing_after(rt.alloc(), postings.as_slice(), i)?;
-        match retract(bank, &posting.record, later.as_slice()) {
+        let later = standing_after(rt.alloc(), postings.as_slice(), i)?;
+        match retract(bank, &posting.record, later.records.as_slice()) {
             Retraction::Withdrawn => {
                 postings[i].standing = false;
                 println!(rt, "{number:>3}. withdrawn")?;
             }
             Retraction::Inapplicable => println!(rt, "{number:>3}. stays: it cannot have run")?,
             Retraction::Blocked(at) => {
-                let other = places.get(at).copied().unwrap_or(at).saturating_add(1);
+                let other = later.places[at].saturating_add(1);
                 println!(rt, "{number:>3}. stays: {other} stands in the way")?;
             }
         }
@@ -129,12 +134,8 @@ fn take_back(
     Ok(())
 }
 
-// The standing movements after the one at index i: their indices and their records.
-fn standing_after(
-    heap: Global,
-    postings: &[Posting],
-    i: usize,
-) -> Result<(Vec<usize>, Vec<Record>), AllocError> {
+// The standing movements after the one at index i.
+fn standing_after(heap: Global, postings: &[Posting], i: usize) -> Result<Later, AllocError> {
     let mut places = Vec::new(heap);
     let mut records = Vec::new(heap);
     for (at, posting) in postings.iter().enumerate() {
@@ -143,7 +144,7 @@ fn standing_after(
             records.push(posting.record)?;
         }
     }
-    Ok((places, records))
+    Ok(Later { places, records })
 }
 
 // Runs what still stands, and nothing else, on another bank.
@@ -159,10 +160,11 @@ fn replay(bank: &mut CounterBank, postings: &[Posting]) {
 fn print_bins(
     rt: &LibcRuntime,
     postings: &[Posting],
-    times: &[[i64; 32]; 3],
+    before: &Counts,
+    after: &Counts,
+    never: &Counts,
 ) -> Result<(), AnyError> {
-    let [before, after, never] = times;
-    for key in 0..32 {
+    for key in 0..COUNTERS {
         if named(postings, key) {
             println!(
                 rt,
@@ -185,16 +187,16 @@ fn named(postings: &[Posting], key: usize) -> bool {
 }
 
 // What each counter holds.
-fn counts(bank: &mut CounterBank) -> [i64; 32] {
-    let mut counts = [0; 32];
-    for key in 0..32 {
+fn counts(bank: &mut CounterBank) -> Counts {
+    let mut counts = [0; COUNTERS];
+    for (key, count) in counts.iter_mut().enumerate() {
         let read = Operation {
             code: codes::READ,
             unit: 0,
-            key,
+            key: key as u32,
             amount: 0,
         };
-        counts[key as usize] = bank.run(read).value;
+        *count = bank.run(read).value;
     }
     counts
 }

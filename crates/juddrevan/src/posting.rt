@@ -1,4 +1,6 @@
 // One movement of a day: the order that it belongs to, what was asked and answered, and whether it still stands.
+ghost use mathlib.Core.Path.{_≡_};
+ghost use Rattle.std.specs.Of.Vec.{vec-len};
 use objects::answers;
 use objects::codes;
 use objects::records::Answer;
@@ -12,6 +14,14 @@ pub struct Posting {
     pub order: u16,
     pub record: Record,
     pub standing: bool,
+}
+
+// Movements that stand after another: their places in the day, and their records.
+#[derive(Drop)]
+pub struct Later {
+    pub places: Vec<usize>,
+    pub records: Vec<Record>,
+    ghost paired: { vec-len places ≡ vec-len records },
 }
 
 pub impl fmt::Display for Posting as PostingDisplay {

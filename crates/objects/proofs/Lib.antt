@@ -1,4 +1,3 @@
-pub mod Undo
 pub mod Same
 pub mod Carry
 pub mod Retractions

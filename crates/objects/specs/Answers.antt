@@ -27,17 +27,45 @@ full = plain 2
 abbrev pub short : Answer
 short = plain 3
 
--- what a counter holds, or how many members a set has
+abbrev pub new : Answer
+new = plain 5
+
+abbrev pub already : Answer
+already = plain 6
+
+abbrev pub gone : Answer
+gone = plain 7
+
+abbrev pub absent : Answer
+absent = plain 8
+
+abbrev pub answer-yes : Answer
+answer-yes = plain 9
+
+abbrev pub answer-no : Answer
+answer-no = plain 10
+
+abbrev pub nothing : Answer
+nothing = plain 13
+
+abbrev pub closed : Answer
+closed = plain 14
+
+abbrev pub plain-answers : List Answer
+plain-answers =
+    bad ∷ done ∷ full ∷ short ∷ new ∷ already ∷ gone ∷ absent ∷ answer-yes ∷ answer-no ∷ nothing ∷ closed ∷ []
+
+-- value: what a counter holds, or how many members a set has
 abbrev pub holding : ℤ → Answer
 holding v = record { tag = 4; place = 0; value = v }
 
--- the value that stood on a day before
-abbrev pub replaced : ℤ → Answer
-replaced v = record { tag = 11; place = 0; value = v }
+-- old: the value that a day held before
+abbrev pub old : ℤ → Answer
+old v = record { tag = 11; place = 0; value = v }
 
--- the day on which a value was found, and the value
-abbrev pub located : ℕ → ℤ → Answer
-located day v = record { tag = 12; place = day; value = v }
+-- found: the day on which a value was found as the place, and the value
+abbrev pub found : ℕ → ℤ → Answer
+found day v = record { tag = 12; place = day; value = v }
 
 -- two answers are the same
 abbrev pub same : Answer → Answer → Bool

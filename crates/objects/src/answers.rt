@@ -1,6 +1,6 @@
 // The tags of answers, and the answers that the rules name.
 ghost use mathlib.Core.Path.{_≡_};
-ghost use Rattle.objects.specs.Answers.{holding, located, replaced, tags};
+ghost use Rattle.objects.specs.Answers.{found, holding, old, plain-answers, tags};
 use crate::records::Answer;
 
 pub const BAD: u8 = 0;
@@ -53,6 +53,26 @@ pub fn all_tags() -> [u8; 15]
         FOUND,
         NOTHING,
         CLOSED,
+    ]
+}
+
+// Every answer that says no more than its tag, by ascending tag.
+pub fn plain_answers() -> [Answer; 12]
+    ensures { λ r. ⌜ r ≡ plain-answers ⌝ }
+{
+    [
+        Answer::BAD,
+        Answer::DONE,
+        Answer::FULL,
+        Answer::SHORT,
+        Answer::NEW,
+        Answer::ALREADY,
+        Answer::GONE,
+        Answer::ABSENT,
+        Answer::YES,
+        Answer::NO,
+        Answer::NOTHING,
+        Answer::CLOSED,
     ]
 }
 
@@ -119,35 +139,35 @@ impl Answer {
     };
 
     // What a counter holds, or how many members a set has.
-    pub fn holding(value: i64) -> Answer
-        ensures { λ r. ⌜ r ≡ holding value ⌝ }
+    pub fn value(held: i64) -> Answer
+        ensures { λ r. ⌜ r ≡ holding held ⌝ }
     {
         Answer {
             tag: VALUE,
-            value,
-            ..Answer::BAD
+            place: 0,
+            value: held,
         }
     }
 
-    // The value that stood on a day before.
-    pub fn replaced(value: i64) -> Answer
-        ensures { λ r. ⌜ r ≡ replaced value ⌝ }
+    // The value that a day held before.
+    pub fn old(before: i64) -> Answer
+        ensures { λ r. ⌜ r ≡ old before ⌝ }
     {
         Answer {
             tag: OLD,
-            value,
-            ..Answer::BAD
+            place: 0,
+            value: before,
         }
     }
 
     // The day on which a value was found, and the value.
-    pub fn located(day: u32, value: i64) -> Answer
-        ensures { λ r. ⌜ r ≡ located day value ⌝ }
+    pub fn found(day: u32, held: i64) -> Answer
+        ensures { λ r. ⌜ r ≡ found day held ⌝ }
     {
         Answer {
             tag: FOUND,
             place: day,
-            value,
+            value: held,
         }
     }
 }

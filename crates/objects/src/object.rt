@@ -38,14 +38,3 @@ pub trait Object {
     fn test(&self, earlier: &Record, later: &Record) -> bool
         ensures { λ r. ⌜ r ≡ kind (fixed (now (self .entry))) .tested (now (earlier .entry)) (now (later .entry)) ⌝ };
 }
-
-// The answer that an operation would get: it is run and taken back at once, so that the object stays as it was.
-pub fn preview<O: Object>(object: &mut O, operation: Operation) -> Answer
-    ensures answers { λ r. ⌜ r ≡ O·Object .kind (O·Object .fixed (now (object .entry))) .ran (O·Object .state (now (object .entry))) operation .0 ⌝ }
-    ensures stays { λ _. ⌜ O·Object .state (now (object .exit)) ≡ O·Object .state (now (object .entry)) ⌝ }
-    ensures keeps { λ _. ⌜ O·Object .fixed (now (object .exit)) ≡ O·Object .fixed (now (object .entry)) ⌝ }
-{
-    let answer = object.run(operation);
-    let _ = object.withdraw(&Record { operation, answer });
-    answer
-}
