@@ -1,9 +1,8 @@
 -- The spans say where a record runs and where its withdrawal applies, and how each moves the counter.
 use mathlib.Core.Path.{_≡_, refl, sym, ap, subst, _∙_}
-use mathlib.Core.Bool.{Bool, true, false, cond, _&&_}
+use mathlib.Core.Bool.{Bool, true, false, cond}
 use mathlib.Core.List.{List}
-use mathlib.Core.Logic.{⊎-elim}
-use Prim.Native.Nat.{ℕ, _≤_, _<_}
+use Prim.Native.Nat.{ℕ}
 use native.Mathlib.Omega.{arith}
 use lib.IntN.{ℤ, pos, negℤ, _+ℤ_, _-ℤ_}
 use lib.Signed.{_≤ℤ_, leZ}
@@ -13,7 +12,7 @@ use Rattle.std.proofs.shelf.Signed.{ints}
 use Rattle.std.proofs.shelf.Tests.{and-parts, cond-both, cond-true, cond-false}
 use Rattle.objects.specs.declared.records.Answer.{Answer}
 use Rattle.objects.specs.Answers.{bad, done, full, holding, same, short}
-use Rattle.objects.proofs.Same.{same-refl, same-true}
+use Rattle.objects.proofs.Same.{same-true}
 use Rattle.counters.specs.declared.movement.Movement.{Movement}
 use Rattle.counters.specs.declared.movement.Movement.the-variants.{Add, Take, Read, Bad}
 use Rattle.counters.specs.declared.span.Span.{Span}

@@ -1,14 +1,14 @@
 -- What the two spans of a record have to do with each other and with the range of the counts.
-use mathlib.Core.Path.{_≡_, refl, sym}
-use mathlib.Core.Bool.{Bool, true, false, cond, _&&_}
+use mathlib.Core.Path.{_≡_, refl}
+use mathlib.Core.Bool.{Bool, true, false, cond}
 use mathlib.Core.Logic.{_⊎_, inl, inr}
-use Prim.Native.Nat.{ℕ, _≤_, _<_}
+use Prim.Native.Nat.{ℕ, _<_}
 use native.Mathlib.Omega.{arith}
 use lib.IntN.{ℤ, pos, negℤ, _+ℤ_, _-ℤ_}
 use lib.Signed.{_≤ℤ_}
 use Rattle.std.proofs.shelf.Signed.{ints}
 use Rattle.objects.specs.declared.records.Answer.{Answer}
-use Rattle.objects.specs.Answers.{bad, done, full, holding, same, short}
+use Rattle.objects.specs.Answers.{bad, done, full, same, short}
 use Rattle.counters.specs.declared.movement.Movement.{Movement}
 use Rattle.counters.specs.declared.movement.Movement.the-variants.{Add, Take, Read, Bad}
 use Rattle.counters.specs.declared.span.Span.{Span}

@@ -1,25 +1,24 @@
 -- A bank keeps the laws of an object, at every ceiling from 0 on.
-use mathlib.Core.Path.{_≡_, refl, sym, ap, ap₂, subst, subst₂, _∙_}
-use mathlib.Core.Bool.{Bool, true, false, cond, _&&_, _||_}
+use mathlib.Core.Path.{_≡_, refl, sym, ap, subst, subst₂, _∙_}
+use mathlib.Core.Bool.{true, false, _&&_}
 use mathlib.Core.List.{List}
-use mathlib.Core.Logic.{_⊎_, inl, inr, ⊎-elim}
-use Prim.Native.Nat.{ℕ, _≤_, _<_}
+use mathlib.Core.Logic.{inl, inr, ⊎-elim}
+use Prim.Native.Nat.{ℕ, _<_}
 use native.Mathlib.Omega.{arith}
 use lib.Dec.{eqb}
 use lib.IntN.{ℤ, pos, _+ℤ_}
 use lib.ListN.{set}
 use lib.Signed.{_≤ℤ_, leZ, ltZ}
 use Rattle.std.specs.Numbers.{maxZ, minZ}
-use Rattle.std.specs.declared.option.Option.{Option}
-use Rattle.std.specs.declared.option.Option.the-variants.{Some, None}
+use Rattle.std.specs.declared.option.Option.the-variants.{Some}
 use Rattle.std.proofs.shelf.Lists.{set-getD}
 use Rattle.std.proofs.shelf.Signed.{ints, clamps}
 use Rattle.std.proofs.shelf.Tests.{and-from, cases-bool, cases-eq, cond-both, cond-true, eq-eqb, eqb-true, or-left, or-right}
 use Rattle.objects.specs.declared.records.Operation.{Operation}
 use Rattle.objects.specs.declared.records.Record.{Record}
-use Rattle.objects.specs.Kinds.{Kind, Runs, Commutes, Laws}
+use Rattle.objects.specs.Kinds.{Runs, Commutes, Laws}
 use Rattle.counters.specs.declared.span.Span.{Span}
-use Rattle.counters.specs.Bank.{did, ran, undone, withdrawn}
+use Rattle.counters.specs.Bank.{ran, withdrawn}
 use Rattle.counters.specs.Counts.{Counts, counters, held, moved}
 use Rattle.counters.specs.Kind.{bank}
 use Rattle.counters.specs.Movements.{meant}

@@ -2,7 +2,6 @@
 use mathlib.Core.Path.{_≡_, refl, sym, ap, subst, _∙_}
 use mathlib.Core.List.{List}
 use mathlib.Core.Logic.{⊎-elim}
-use Prim.Native.Nat.{ℕ, _<_}
 use native.Mathlib.Omega.{arith}
 use lib.IntN.{ℤ, pos, _+ℤ_}
 use lib.Signed.{_≤ℤ_}
@@ -11,7 +10,6 @@ use Rattle.std.specs.declared.option.Option.the-variants.{Some, None}
 use Rattle.std.proofs.shelf.Signed.{ints}
 use Rattle.objects.specs.declared.records.Record.{Record}
 use Rattle.objects.specs.Kinds.{Runs, Plain-withdrawals}
-use Rattle.counters.specs.declared.span.Span.{Span}
 use Rattle.counters.specs.Bank.{withdrawn}
 use Rattle.counters.specs.Counts.{Counts, held, moved}
 use Rattle.counters.specs.Kind.{bank}

@@ -1,5 +1,5 @@
 -- What the code has to know of its numbers, so that no sum leaves 64 bits and no index its array. These are no rules.
-use Prim.Native.Nat.{ℕ, _<_}
+use Prim.Native.Nat.{_<_}
 use lib.IntN.{ℤ, pos, negℤ}
 use lib.Signed.{_≤ℤ_}
 use Rattle.counters.specs.Counts.{counters}

@@ -1,12 +1,10 @@
 -- A withdrawal moves past what ran later, if the test says yes to each.
-use mathlib.Core.Path.{_≡_, refl, sym, ap, subst, _∙_}
-use mathlib.Core.Bool.{Bool, true, false}
-use mathlib.Core.List.{List, [], _∷_}
-use Prim.Native.Nat.{ℕ, zero, suc, _<_, suc-le-suc}
+use mathlib.Core.Path.{_≡_, subst}
+use mathlib.Core.List.{List, _∷_}
+use Prim.Native.Nat.{suc, suc-le-suc}
 use native.Mathlib.Omega.{arith}
-use lib.ListN.{length, getD}
-use Rattle.std.specs.declared.option.Option.{Option}
-use Rattle.std.specs.declared.option.Option.the-variants.{Some, None}
+use lib.ListN.{length}
+use Rattle.std.specs.declared.option.Option.the-variants.{Some}
 use Rattle.objects.specs.declared.records.Record.{Record}
 use Rattle.objects.specs.Kinds.{Kind, Laws, Runs}
 use Rattle.objects.specs.Leads.{Leads, none, more, Passes}

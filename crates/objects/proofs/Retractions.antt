@@ -13,7 +13,7 @@ use Rattle.std.proofs.shelf.Tests.{both-ways}
 use Rattle.objects.specs.declared.records.Record.{Record}
 use Rattle.objects.specs.Kinds.{Kind, Laws, Runs}
 use Rattle.objects.specs.Leads.{Leads, Passes}
-use Rattle.objects.proofs.Carry.{Carried, carry-from-run}
+use Rattle.objects.proofs.Carry.{carry-from-run}
 
 none-left : {S : Type 0} (o : Option S) (s : S) → isSome o ≡ false → valueOr o s ≡ s
 none-left None s e = refl

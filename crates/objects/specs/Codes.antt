@@ -1,5 +1,5 @@
 -- What the rules say of each code: 1 add, 2 take, 3 read; 4 insert, 5 remove, 6 has, 7 size; 8 put, 9 drop, 10 find.
-use mathlib.Core.Bool.{Bool, true, false, cond, not, _&&_, _||_}
+use mathlib.Core.Bool.{Bool, cond, not, _&&_, _||_}
 use Prim.Native.Nat.{ℕ, _-_, _^_}
 use lib.Dec.{leb, eqb}
 use Rattle.std.specs.declared.option.Option.{Option}

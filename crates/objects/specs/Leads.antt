@@ -1,12 +1,10 @@
 -- Records that run one after the other, and a record that is withdrawn from before them.
 use mathlib.Core.Path.{_≡_}
-use mathlib.Core.Bool.{Bool, true, false, cond}
+use mathlib.Core.Bool.{true, false}
 use mathlib.Core.List.{List, [], _∷_}
 use Prim.Native.Nat.{ℕ, _<_}
 use lib.ListN.{length, getD}
 use Rattle.std.specs.Options.{isSome, valueOr}
-use Rattle.std.specs.declared.option.Option.{Option}
-use Rattle.std.specs.declared.option.Option.the-variants.{Some, None}
 use Rattle.objects.specs.declared.records.Record.{Record}
 use Rattle.objects.specs.declared.retract.Retraction.{Retraction}
 use Rattle.objects.specs.declared.retract.Retraction.the-variants.{Withdrawn, Inapplicable, Blocked}

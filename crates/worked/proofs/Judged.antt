@@ -8,7 +8,7 @@ use Rattle.std.proofs.shelf.Tests.{and-parts}
 use Rattle.objects.specs.Kinds.{Laws}
 use Rattle.counters.specs.Counts.{ceiling}
 use Rattle.counters.proofs.Laws.{bank-laws}
-use Rattle.worked.specs.Examples.{Example, Pair, Subject, Bank, State, kind, Holds}
+use Rattle.worked.specs.Examples.{Example, Pair, Subject, Bank, kind, Holds}
 
 subject-laws : (x : Subject) → Laws (kind x)
 subject-laws Bank = bank-laws ceiling (leZ-yes tt)

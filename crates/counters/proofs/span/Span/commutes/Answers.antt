@@ -1,10 +1,8 @@
 use borrow.Author.Needs.{needs}
 use native.Mathlib.Omega.{arith}
 use mathlib.Core.Path.{_≡_}
-use mathlib.Core.Bool.{Bool, true, false}
 use Rattle.std.proofs.shelf.Signed.{ints, clamps, toZ-ofZ}
 use Rattle.std.specs.Numbers.{maxZ, minZ}
-use Rattle.counters.specs.Spans.{commuting}
 use Rattle.counters.proofs.Spans.{by-bounds}
 use Rattle.counters.proofs.span.Span.commutes.Needs as need
 
