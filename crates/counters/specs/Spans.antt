@@ -25,7 +25,7 @@ nowhere = span (pos 1) (pos 0) (pos 0)
 
 -- where a record runs, and how it moves the count
 abbrev pub run-span : ℤ → Movement → Answer → Span
-run-span c (Add k n) a = cond (same a done) (span (pos 0) (c -ℤ n) n) (cond (same a full) (span (c -ℤ n +ℤ pos 1) c (pos 0)) nowhere)
+run-span c (Add k n) a = cond (same a done) (span (pos 0) (c -ℤ n) n) (cond (same a full) (span ((c -ℤ n) +ℤ pos 1) c (pos 0)) nowhere)
 run-span c (Take k n) a = cond (same a done) (span n c (negℤ n)) (cond (same a short) (span (pos 0) (n -ℤ pos 1) (pos 0)) nowhere)
 run-span c (Read k) a = cond (is-reading c a) (span (a .value) (a .value) (pos 0)) nowhere
 run-span c Bad a = cond (same a bad) (everywhere c) nowhere
