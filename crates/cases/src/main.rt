@@ -1,5 +1,7 @@
 // Compares the counter bank's test with the law that it has to decide, read off the bank itself:
 // every pair of many records, junk ones too, at every count where a range can begin or end.
+#![tactic(auto)]
+
 use counters::bank::{CEILING, CounterBank};
 use objects::codes;
 use objects::object::Object;

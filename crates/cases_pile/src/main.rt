@@ -1,5 +1,7 @@
 // Compares each object's test with the law that it has to decide, read off the object itself:
 // every pair of many records, junk ones too, in states that tell whether the two commute.
+#![tactic(auto)]
+
 mod law;
 mod trials;
 

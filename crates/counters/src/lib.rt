@@ -1,3 +1,5 @@
+#![tactic(auto)]
+
 pub mod bank;
 mod movement;
 pub mod object;

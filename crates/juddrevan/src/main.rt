@@ -1,4 +1,5 @@
 // A short day of movements on a counter bank, and one order's movements taken back.
+#![tactic(auto)]
 
 mod posting;
 

@@ -1,4 +1,5 @@
 // A short day of movements on a pile of objects, and one order's movements taken back.
+#![tactic(auto)]
 
 mod movement;
 mod pile;

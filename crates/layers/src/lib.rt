@@ -1,3 +1,5 @@
+#![tactic(auto)]
+
 pub mod alias;
 pub mod filter;
 pub mod lock;

@@ -1,3 +1,5 @@
+#![tactic(auto)]
+
 pub mod days;
 pub mod object;
 mod request;

@@ -1,3 +1,5 @@
+#![tactic(auto)]
+
 pub mod answers;
 pub mod codes;
 pub mod object;

@@ -1,4 +1,6 @@
 // Worked examples of the rules, proved.
+#![tactic(auto)]
+
 ghost use Rattle.std.specs.Prelude.{◌≡◌, length};
 ghost use Rattle.std.specs.List.{AllByRecursion as All};
 ghost use Rattle.worked_pile.specs.Examples.{Holds};

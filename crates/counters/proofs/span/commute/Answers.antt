@@ -10,6 +10,6 @@ pub commutes-requires : goal.commutes-requires
 commutes-requires c =
     let p = c.args.earlier.now in
     let q = c.args.later.now in (
-      subst (Bounded ceiling) (sym c.of-withdrawal.ensures) (withdrawal_bounded (meant ceiling p.operation) p.answer (sane ceiling p.operation)),
-      subst (Bounded ceiling) (sym c.of-run.ensures) (run_bounded (meant ceiling q.operation) q.answer (sane ceiling q.operation)),
+      subst (Bounded ceiling) (sym c.of_withdrawal.ensures) (withdrawal_bounded (meant ceiling p.operation) p.answer (sane ceiling p.operation)),
+      subst (Bounded ceiling) (sym c.of_run.ensures) (run_bounded (meant ceiling q.operation) q.answer (sane ceiling q.operation)),
     )

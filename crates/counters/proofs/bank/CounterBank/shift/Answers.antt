@@ -20,5 +20,5 @@ invariant-of-self c =
 pub returns : goal.returns
 returns c =
     let bank = c.args.self.now in
-    let told = shift_made bank.counts c.args.key c.args.by (bank.each c.args.key (omega arith)) c.requires.1 c.if-not-in-range.ensures in
+    let told = shift_made bank.counts c.args.key c.args.by (bank.each c.args.key (omega arith)) c.requires.1 c.if-not-in_range.ensures in
     record { moves = told.0; counts = told.1 }

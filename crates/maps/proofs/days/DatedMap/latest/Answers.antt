@@ -21,4 +21,4 @@ returns-in-default c =
 pub loop-at-preserved : goal.loop-at-preserved
 loop-at-preserved c e above most =
     let s = c.args.self.now.days in
-    ⊎_elim (λ here. ap (held s) here ∙ sym c.in-default.ensures) (λ ne. c.loop-at.invariant e (omega arith) most) (cases_eq e c.loop-at.at)
+    ⊎_elim (λ here. ap (held s) here ∙ sym c.in_default.ensures) (λ ne. c.loop-at.invariant e (omega arith) most) (cases_eq e c.loop-at.at)

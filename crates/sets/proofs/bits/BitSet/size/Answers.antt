@@ -1,10 +1,10 @@
 use Rattle.std.proofs.Common.{ℕ, ◌^◌, ◌<◌, ◌≤◌, get_or, sym, arith}
-use lib.Count.{ones, ones_le}
+use lib.Count.{ones, ones-le}
 use Rattle.sets.specs.WordsLemmas.{size_counted}
 use Rattle.sets.proofs.bits.BitSet.size.Goals as goal
 
 at_most : (w : ℕ) → w < 2 ^ 64 → ones w ≤ 64
-at_most w h = ones_le 64 w h
+at_most w h = ones-le 64 w h
 
 pub overflow-add-result : goal.overflow-add-result
 overflow-add-result c =
