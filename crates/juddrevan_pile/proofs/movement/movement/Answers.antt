@@ -12,7 +12,7 @@ row_family n row is = sym (ap (λ r. r.family) (provided_is (is_code n) (code_ro
 
 pub returns : goal.returns
 returns c =
-    let code = c.in-ok-code.code in
-    let is = row_family code c.in-ok-row.row c.in-ok-row.ensures in
-    let reached : (o : Operation) → o.unit ≡ c.unit-of-unit.result → Reaches (family code) o = λ o e. subst (λ f. Reaches f o) is (c.unit-of-unit.ensures o e) in
-    reached (record { code = code; unit = c.unit-of-unit.result; key = c.in-ok-key.key; amount = _ }) refl
+    let code = c.in_ok-code.code in
+    let is = row_family code c.in_ok-row.row c.in_ok-row.ensures in
+    let reached : (o : Operation) → o.unit ≡ c.unit_of-unit.result → Reaches (family code) o = λ o e. subst (λ f. Reaches f o) is (c.unit_of-unit.ensures o e) in
+    reached (record { code = code; unit = c.unit_of-unit.result; key = c.in_ok-key.key; amount = _ }) refl

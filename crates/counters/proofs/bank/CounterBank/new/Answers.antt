@@ -5,8 +5,8 @@ use Rattle.counters.specs.CountsLemmas.{all_each}
 use Rattle.counters.proofs.Withdrawals.{bank_withdrawals}
 use Rattle.counters.proofs.bank.CounterBank.new.Goals as goal
 
-pub invariant-of-result : goal.invariant-of-result
-invariant-of-result c = (refl, (all_each ceiling _ (le_z_yes tt, le_z_yes tt), tt))
+pub invariant_of-result : goal.invariant_of-result
+invariant_of-result c = record { many = refl; each = all_each ceiling _ (le_z_yes tt, le_z_yes tt) }
 
 pub returns : goal.returns
 returns c = record { zero = refl; withdrawals = bank_withdrawals ceiling (le_z_yes tt) }

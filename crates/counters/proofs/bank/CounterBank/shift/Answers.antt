@@ -5,17 +5,17 @@ use Rattle.counters.specs.CountsLemmas.{each_set}
 use Rattle.counters.proofs.Shifts.{next_within, shift_made, shift_refused}
 use Rattle.counters.proofs.bank.CounterBank.shift.Goals as goal
 
-pub returns-then-not-in-range : goal.returns-then-not-in-range
-returns-then-not-in-range c =
+pub returns-then-not-in_range : goal.returns-then-not-in_range
+returns-then-not-in_range c =
     let bank = c.args.self.now in
-    let told = shift_refused bank.counts c.args.key c.args.by (bank.each c.args.key (omega arith)) c.requires.1 c.if-not-in-range.ensures in
+    let told = shift_refused bank.counts c.args.key c.args.by (bank.each c.args.key (omega arith)) c.requires.1 c.if-not-in_range.ensures in
     record { moves = told.0; counts = told.1 }
 
-pub invariant-of-self : goal.invariant-of-self
-invariant-of-self c =
+pub invariant_of-self : goal.invariant_of-self
+invariant_of-self c =
     let bank = c.args.self.now in
-    let within = next_within bank.counts c.args.key c.args.by (bank.each c.args.key (omega arith)) c.requires.1 c.if-not-in-range.ensures in
-    (length-set bank.counts c.args.key _ ∙ bank.many, (each_set ceiling bank.counts c.args.key _ bank.many bank.each within, tt))
+    let within = next_within bank.counts c.args.key c.args.by (bank.each c.args.key (omega arith)) c.requires.1 c.if-not-in_range.ensures in
+    record { many = length-set bank.counts c.args.key _ ∙ bank.many; each = each_set ceiling bank.counts c.args.key _ bank.many bank.each within }
 
 pub returns : goal.returns
 returns c =

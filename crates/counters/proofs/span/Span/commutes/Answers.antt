@@ -10,11 +10,11 @@ returns-then-low-high c =
     let k : c.min-high.result ≡ int_min c.args.self.high c.args.later.high = search (rules, to_z-of_z) in
     grind (arith, ints)
 
-pub overflow-add-still-runs : goal.overflow-add-still-runs
-overflow-add-still-runs c = omega (arith, ints, clamps)
+pub overflow_add-still_runs : goal.overflow_add-still_runs
+overflow_add-still_runs c = omega (arith, ints, clamps)
 
-pub overflow-add-still-runs-2 : goal.overflow-add-still-runs-2
-overflow-add-still-runs-2 c = omega (arith, ints, clamps)
+pub overflow_add-still_runs-2 : goal.overflow_add-still_runs-2
+overflow_add-still_runs-2 c = omega (arith, ints, clamps)
 
 pub returns : goal.returns
 returns c =

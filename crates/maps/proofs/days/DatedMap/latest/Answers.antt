@@ -12,11 +12,11 @@ returns-in-Some c =
     let is : IsLatest s day (Some (c.loop-at.at, c.in-Some.value)) = (c.loop-at.auto.at, sym c.in-Some.ensures, c.loop-at.invariant) in
     subst (λ v. Some (c.loop-at.at, v) ≡ latest s day) (search rules) (latest_unique s day _ is)
 
-pub returns-in-default : goal.returns-in-default
-returns-in-default c =
+pub returns-in_default : goal.returns-in_default
+returns-in_default c =
     let s = c.args.self.now.days in
     let day = c.args.day in
-    latest_unique s day None (λ e most. ⊎_elim (λ here. ap (held s) here ∙ sym c.in-default.ensures) (λ ne. c.loop-at.invariant e (omega arith) most) (cases_eq e c.loop-at.at))
+    latest_unique s day None (λ e most. ⊎_elim (λ here. ap (held s) here ∙ sym c.in_default.ensures) (λ ne. c.loop-at.invariant e (omega arith) most) (cases_eq e c.loop-at.at))
 
 pub loop-at-preserved : goal.loop-at-preserved
 loop-at-preserved c e above most =

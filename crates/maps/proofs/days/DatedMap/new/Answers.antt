@@ -5,9 +5,9 @@ use Rattle.maps.specs.LatestLemmas.{latest_right}
 use Rattle.maps.specs.Laws.{dated_map_withdrawals}
 use Rattle.maps.proofs.days.DatedMap.new.Goals as goal
 
-pub invariant-of-result : goal.invariant-of-result
+pub invariant_of-result : goal.invariant_of-result
 unfolding empty
-invariant-of-result c = (refl, (empty_days.each, tt))
+invariant_of-result c = record { many = refl; each = empty_days.each }
 
 pub returns : goal.returns
 unfolding empty

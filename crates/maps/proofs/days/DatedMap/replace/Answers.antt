@@ -1,8 +1,8 @@
 use Rattle.maps.specs.Contents.{set_days}
 use Rattle.maps.proofs.days.DatedMap.replace.Goals as goal
 
-pub invariant-of-self : goal.invariant-of-self
-invariant-of-self c =
+pub invariant_of-self : goal.invariant_of-self
+invariant_of-self c =
     let map = c.args.self.now in
     let after = set_days map.days c.args.day c.args.content (record { many = map.many; each = map.each }) c.requires.1 in
-    (after.many, (after.each, tt))
+    record { many = after.many; each = after.each }

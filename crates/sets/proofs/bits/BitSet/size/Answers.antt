@@ -6,18 +6,18 @@ use Rattle.sets.proofs.bits.BitSet.size.Goals as goal
 at_most : (w : ℕ) → w < 2 ^ 64 → ones w ≤ 64
 at_most w h = ones-le 64 w h
 
-pub overflow-add-result : goal.overflow-add-result
-overflow-add-result c =
+pub overflow_add-result : goal.overflow_add-result
+overflow_add-result c =
     let words = c.args.self.now.words in
     omega (arith, at_most (get_or words 0 0) (omega arith), at_most (get_or words 1 0) (omega arith))
 
-pub overflow-add-result-2 : goal.overflow-add-result-2
-overflow-add-result-2 c =
+pub overflow_add-result-2 : goal.overflow_add-result-2
+overflow_add-result-2 c =
     let words = c.args.self.now.words in
     omega (arith, at_most (get_or words 0 0) (omega arith), at_most (get_or words 1 0) (omega arith), at_most (get_or words 2 0) (omega arith))
 
-pub overflow-add-result-3 : goal.overflow-add-result-3
-overflow-add-result-3 c =
+pub overflow_add-result-3 : goal.overflow_add-result-3
+overflow_add-result-3 c =
     let words = c.args.self.now.words in
     omega (arith, at_most (get_or words 0 0) (omega arith), at_most (get_or words 1 0) (omega arith), at_most (get_or words 2 0) (omega arith), at_most (get_or words 3 0) (omega arith))
 
