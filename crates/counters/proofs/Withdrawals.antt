@@ -7,9 +7,9 @@ use Rattle.counters.specs.Bank.{withdrawn}
 use Rattle.counters.specs.Counts.{Counts, held, moved}
 use Rattle.counters.specs.Kind.{bank}
 use Rattle.counters.specs.Spans.{everywhere}
-use Rattle.counters.specs.CountsLemmas.{counts_only, held_moved, held_only, held_within, moved_nothing, only}
-use Rattle.counters.specs.Fit.{In}
-use Rattle.counters.specs.Laws.{back, fits, forth, key, runs_at, runs_in, withdraws}
+use Rattle.counters.specs.Lemmas.Counts.{counts_only, held_moved, held_only, held_within, moved_nothing, only}
+use Rattle.counters.specs.Lemmas.Fit.{In}
+use Rattle.counters.specs.Lemmas.Laws.{back, fits, forth, key, runs_at, runs_in, withdraws}
 
 module _ (c : ℤ) (least : pos 0 ≤ℤ c) where
   still : (s t : List ℤ) (r : Record) → Counts c s → Runs (bank c) s r s → Counts c t → withdrawn c t r ≡ Some t

@@ -2,10 +2,6 @@ pub mod Bank
 pub mod Bounds
 pub mod Counts
 pub mod Kind
+pub mod Lemmas
 pub mod Movements
 pub mod Spans
-pub mod Laws
-pub mod Applies
-pub mod CountsLemmas
-pub mod Fit
-pub mod MovementsLemmas

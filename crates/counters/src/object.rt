@@ -6,8 +6,7 @@ ghost use Rattle.counters.specs.Counts.{ceiling, counters};
 ghost use Rattle.counters.specs.Kind.{bank};
 ghost use Rattle.counters.specs.Bounds.{Small};
 ghost use Rattle.std.specs.Int.Signed.{le_z_yes};
-ghost use Rattle.counters.specs.Laws.{bank_laws};
-ghost use Rattle.std.proofs.Common.{rules, arith};
+ghost use Rattle.counters.specs.Lemmas.Laws.{bank_laws};
 
 use crate::bank::{CounterBank, in_range};
 use crate::movement::{Movement, is_reading};
@@ -42,7 +41,7 @@ impl Object for CounterBank {
 
     ghost state = { λ b. b.counts };
 
-    ghost lawful = { first_of (Prim.search rules, Prim.grind (arith, Self.row.coded.inj)) };
+    ghost lawful = { λ x. record { many = x.many; each = x.each } };
 
     ghost laws = { λ x. bank_laws ceiling (le_z_yes tt) };
 

@@ -1,7 +1,5 @@
 pub mod Aliases
 pub mod Filters
+pub mod Lemmas
 pub mod Pairs
 pub mod Periods
-pub mod FiltersLemmas
-pub mod PairsLemmas
-pub mod Parts

@@ -4,8 +4,7 @@ ghost use Rattle.objects.specs.declared.records.Operation.{Operation};
 ghost use Rattle.objects.specs.declared.records.Answer.{Answer};
 ghost use Rattle.objects.specs.Kinds.{PlainWithdrawals};
 ghost use Rattle.layers.specs.Filters.{filtered, passed_record};
-ghost use Rattle.layers.specs.FiltersLemmas.{filtered_laws};
-ghost use Rattle.std.proofs.Common.{rules};
+ghost use Rattle.layers.specs.Lemmas.Filters.{filtered_laws};
 
 use objects::object::Object;
 use objects::records::{Answer, Operation, Record};
@@ -65,7 +64,7 @@ impl<F: Filter, O: Object> Object for Filtered<F, O> {
 
     ghost state = { λ x. O.Object.state x.below };
 
-    ghost lawful = { Prim.search rules };
+    ghost lawful = { λ x. O.Object.lawful x.below };
 
     ghost laws = { λ x. filtered_laws _ _ (O.Object.laws x.below) };
 

@@ -2,8 +2,7 @@
 ghost use Rattle.std.specs.Prelude.{◌≡◌};
 ghost use Rattle.objects.specs.Kinds.{PlainWithdrawals};
 ghost use Rattle.layers.specs.Pairs.{goes_left, halved, halved_record, paired};
-ghost use Rattle.layers.specs.PairsLemmas.{paired_laws};
-ghost use Rattle.std.proofs.Common.{rules};
+ghost use Rattle.layers.specs.Lemmas.Pairs.{paired_laws};
 
 use objects::object::Object;
 use objects::records::{Answer, Operation, Record};
@@ -61,7 +60,7 @@ impl<L: Object, R: Object> Object for Pair<L, R> {
 
     ghost state = { λ p. (L.Object.state p.left, R.Object.state p.right) };
 
-    ghost lawful = { Prim.search rules };
+    ghost lawful = { λ x. (L.Object.lawful x.left, R.Object.lawful x.right) };
 
     ghost laws = { λ x. paired_laws _ _ (L.Object.laws x.left) (R.Object.laws x.right) _ (L.Object.lawful x.left, R.Object.lawful x.right) };
 

@@ -1,9 +1,6 @@
 pub mod Days
 pub mod Kind
 pub mod Latest
+pub mod Lemmas
 pub mod Requests
 pub mod Traces
-pub mod Laws
-pub mod Contents
-pub mod Sights
-pub mod LatestLemmas

@@ -5,8 +5,7 @@ ghost use Rattle.objects.specs.Traces.{restored};
 ghost use Rattle.maps.specs.Days.{day_count, fits, held, same_content};
 ghost use Rattle.maps.specs.Kind.{dated_map};
 ghost use Rattle.maps.specs.Latest.{latest};
-ghost use Rattle.maps.specs.Laws.{dated_map_laws};
-ghost use Rattle.std.proofs.Common.{rules, arith};
+ghost use Rattle.maps.specs.Lemmas.Laws.{dated_map_laws};
 
 use crate::days::DatedMap;
 use crate::request::Request;
@@ -73,7 +72,7 @@ impl Object for DatedMap {
 
     ghost state = { λ m. m.days };
 
-    ghost lawful = { first_of (Prim.search rules, Prim.grind (arith, Self.row.coded.inj)) };
+    ghost lawful = { λ x. record { many = x.many; each = x.each } };
 
     ghost laws = { λ x. dated_map_laws };
 

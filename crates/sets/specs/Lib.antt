@@ -1,10 +1,6 @@
 pub mod Kind
+pub mod Lemmas
 pub mod Members
 pub mod Requests
 pub mod Traces
 pub mod Words
-pub mod WordsLemmas
-pub mod Bools
-pub mod Laws
-pub mod Counted
-pub mod Sights

@@ -4,8 +4,8 @@ ghost use Rattle.std.specs.Option.{unwrap_or};
 ghost use Rattle.sets.specs.Kind.{key_set};
 ghost use Rattle.sets.specs.Members.{keys, member, size, turned};
 ghost use Rattle.sets.specs.Words.{members_of};
-ghost use Rattle.sets.specs.WordsLemmas.{members_many};
-ghost use Rattle.sets.specs.Laws.{key_set_laws};
+ghost use Rattle.sets.specs.Lemmas.Words.{members_many};
+ghost use Rattle.sets.specs.Lemmas.Laws.{key_set_laws};
 
 use crate::bits::BitSet;
 use crate::request::Request;

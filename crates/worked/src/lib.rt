@@ -1,8 +1,7 @@
 // Worked examples of the rules, proved.
 #![tactic(auto)]
 
-ghost use Rattle.std.specs.Prelude.{◌≡◌, length};
-ghost use Rattle.std.specs.List.{AllByRecursion as All};
+ghost use Rattle.std.specs.Prelude.{◌≡◌, length, All};
 ghost use Rattle.worked.specs.Examples.{Holds};
 ghost use Rattle.worked.specs.List.{examples};
 

@@ -1,16 +1,17 @@
 -- An example holds whose verdict is the test's: the rest are the laws.
 use Rattle.std.proofs.Common.{◌≡◌, Bool, true, false, ◌&&◌, List, [], ◌∷◌, sym, refl, ◌∙◌}
 use lib.Signed.{le_z_yes}
-use Rattle.std.specs.List.{AllByRecursion as All}
+use Rattle.std.specs.List.{All, AllByRecursion}
 use Rattle.std.proofs.lemmas.Bool.{and_parts}
+use Rattle.std.proofs.lemmas.List.Elements.{All-from_recursion}
 use Rattle.objects.specs.Kinds.{Laws}
 use Rattle.counters.specs.Counts.{ceiling}
 use Rattle.counters.specs.Kind.{bank}
-use Rattle.counters.specs.Laws.{bank_laws}
-use Rattle.sets.specs.Laws.{key_set_laws}
-use Rattle.maps.specs.Laws.{dated_map_laws}
+use Rattle.counters.specs.Lemmas.Laws.{bank_laws}
+use Rattle.sets.specs.Lemmas.Laws.{key_set_laws}
+use Rattle.maps.specs.Lemmas.Laws.{dated_map_laws}
 use Rattle.layers.specs.Aliases.{aliased}
-use Rattle.layers.specs.FiltersLemmas.{filtered_laws}
+use Rattle.layers.specs.Lemmas.Filters.{filtered_laws}
 use Rattle.worked_pile.specs.Examples.{Example, pair, Subject, counter_bank, keys, dates, aliases, kind, targets, Holds}
 
 subject_laws : (x : Subject) → Laws (kind x)
@@ -42,6 +43,9 @@ holds (pair x p q verdict) h =
     let told = agree_same ((kind x).tested p q) verdict h in
     (told, (λ yes_verdict. (subject_laws x).sound p q (told ∙ yes_verdict), λ commutes. sym told ∙ (subject_laws x).exact p q commutes))
 
+in_turn : (es : List Example) → all_right es ≡ true → AllByRecursion Holds es
+in_turn [] h = tt
+in_turn (e ∷ es) h = let both = and_parts (right e) (all_right es) h in (holds e both.0, in_turn es both.1)
+
 pub all_hold : (es : List Example) → all_right es ≡ true → All Holds es
-all_hold [] h = tt
-all_hold (e ∷ es) h = let both = and_parts (right e) (all_right es) h in (holds e both.0, all_hold es both.1)
+all_hold es h = All-from_recursion Holds es (in_turn es h)

@@ -2,7 +2,7 @@ use Rattle.std.proofs.Common.{sym, subst}
 use Rattle.counters.specs.Counts.{ceiling}
 use Rattle.counters.specs.Movements.{meant}
 use Rattle.counters.specs.Bounds.{Bounded}
-use Rattle.counters.specs.MovementsLemmas.{sane}
+use Rattle.counters.specs.Lemmas.Movements.{sane}
 use Rattle.counters.proofs.Spans.{run_bounded, withdrawal_bounded}
 use Rattle.counters.proofs.span.commute.Goals as goal
 

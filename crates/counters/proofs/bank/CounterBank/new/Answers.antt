@@ -1,7 +1,7 @@
 use Rattle.std.proofs.Common.{refl}
 use lib.Signed.{le_z_yes}
 use Rattle.counters.specs.Counts.{ceiling}
-use Rattle.counters.specs.CountsLemmas.{all_each}
+use Rattle.counters.specs.Lemmas.Counts.{all_each}
 use Rattle.counters.proofs.Withdrawals.{bank_withdrawals}
 use Rattle.counters.proofs.bank.CounterBank.new.Goals as goal
 

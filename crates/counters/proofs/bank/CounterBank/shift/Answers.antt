@@ -1,7 +1,7 @@
 use Rattle.std.proofs.Common.{◌∙◌, arith}
 use Rattle.std.proofs.lemmas.List.{length-set}
 use Rattle.counters.specs.Counts.{ceiling}
-use Rattle.counters.specs.CountsLemmas.{each_set}
+use Rattle.counters.specs.Lemmas.Counts.{each_set}
 use Rattle.counters.proofs.Shifts.{next_within, shift_made, shift_refused}
 use Rattle.counters.proofs.bank.CounterBank.shift.Goals as goal
 

@@ -1,5 +1,5 @@
 use Rattle.std.proofs.Common.{refl}
-use Rattle.layers.specs.FiltersLemmas.{filtered_withdrawals}
+use Rattle.layers.specs.Lemmas.Filters.{filtered_withdrawals}
 use Rattle.layers.proofs.filter.Filtered.new.Goals as goal
 
 pub returns : goal.returns

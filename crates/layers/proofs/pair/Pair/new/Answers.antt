@@ -1,5 +1,5 @@
 use Rattle.std.proofs.Common.{refl}
-use Rattle.layers.specs.PairsLemmas.{paired_withdrawals}
+use Rattle.layers.specs.Lemmas.Pairs.{paired_withdrawals}
 use Rattle.layers.proofs.pair.Pair.new.Goals as goal
 
 pub returns : goal.returns

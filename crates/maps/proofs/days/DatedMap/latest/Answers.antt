@@ -2,7 +2,7 @@ use Rattle.std.proofs.Common.{◌≡◌, Some, None, sym, ap, ◌∙◌, subst, 
 use Rattle.std.proofs.lemmas.Bool.{cases_eq}
 use Rattle.maps.specs.Days.{held}
 use Rattle.maps.specs.Latest.{IsLatest, latest}
-use Rattle.maps.specs.LatestLemmas.{latest_unique}
+use Rattle.maps.specs.Lemmas.Latest.{latest_unique}
 use Rattle.maps.proofs.days.DatedMap.latest.Goals as goal
 
 pub returns-in-Some : goal.returns-in-Some

@@ -1,8 +1,8 @@
 use Rattle.std.proofs.Common.{refl}
 use Rattle.maps.specs.Days.{empty}
-use Rattle.maps.specs.Contents.{empty_days}
-use Rattle.maps.specs.LatestLemmas.{latest_right}
-use Rattle.maps.specs.Laws.{dated_map_withdrawals}
+use Rattle.maps.specs.Lemmas.Contents.{empty_days}
+use Rattle.maps.specs.Lemmas.Latest.{latest_right}
+use Rattle.maps.specs.Lemmas.Laws.{dated_map_withdrawals}
 use Rattle.maps.proofs.days.DatedMap.new.Goals as goal
 
 pub invariant_of-result : goal.invariant_of-result

@@ -1,4 +1,4 @@
-use Rattle.maps.specs.Contents.{set_days}
+use Rattle.maps.specs.Lemmas.Contents.{set_days}
 use Rattle.maps.proofs.days.DatedMap.replace.Goals as goal
 
 pub invariant_of-self : goal.invariant_of-self

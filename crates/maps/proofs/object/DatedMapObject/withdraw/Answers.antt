@@ -1,5 +1,5 @@
 use Rattle.std.proofs.Common.{sym}
-use Rattle.maps.specs.Laws.{written_by}
+use Rattle.maps.specs.Lemmas.Laws.{written_by}
 use Rattle.maps.proofs.object.DatedMapObject.withdraw.Goals as goal
 
 pub restore-requires : goal.restore-requires

@@ -1,5 +1,5 @@
 use Rattle.std.proofs.Common.{sym}
-use Rattle.sets.specs.WordsLemmas.{member_bit}
+use Rattle.sets.specs.Lemmas.Words.{member_bit}
 use Rattle.sets.proofs.bits.BitSet.has.Goals as goal
 
 pub returns : goal.returns

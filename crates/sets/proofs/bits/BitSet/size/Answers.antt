@@ -1,6 +1,6 @@
 use Rattle.std.proofs.Common.{ℕ, ◌^◌, ◌<◌, ◌≤◌, get_or, sym, arith}
 use lib.Count.{ones, ones-le}
-use Rattle.sets.specs.WordsLemmas.{size_counted}
+use Rattle.sets.specs.Lemmas.Words.{size_counted}
 use Rattle.sets.proofs.bits.BitSet.size.Goals as goal
 
 at_most : (w : ℕ) → w < 2 ^ 64 → ones w ≤ 64

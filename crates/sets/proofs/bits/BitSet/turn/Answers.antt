@@ -1,5 +1,5 @@
 use Rattle.std.proofs.Common.{arith}
-use Rattle.sets.specs.WordsLemmas.{turn_made}
+use Rattle.sets.specs.Lemmas.Words.{turn_made}
 use Rattle.sets.proofs.bits.BitSet.turn.Goals as goal
 
 pub returns : goal.returns

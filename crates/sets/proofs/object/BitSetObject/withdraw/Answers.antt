@@ -1,6 +1,6 @@
 use Rattle.std.proofs.Common.{is_some, unwrap_or, refl, ap, ◌∙◌}
 use Rattle.sets.specs.Words.{members_of}
-use Rattle.sets.specs.Laws.{turned_back}
+use Rattle.sets.specs.Lemmas.Laws.{turned_back}
 use Rattle.sets.proofs.object.BitSetObject.withdraw.Goals as goal
 
 pub returns-in-Some-change : goal.returns-in-Some-change

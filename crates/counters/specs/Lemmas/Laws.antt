@@ -14,10 +14,10 @@ use Rattle.counters.specs.Counts.{Counts, counters, held, moved}
 use Rattle.counters.specs.Kind.{bank}
 use Rattle.counters.specs.Movements.{meant}
 use Rattle.counters.specs.Spans.{commuting, run_span, runs_in as span_of_run, tested, withdraws_in as span_of_withdrawal}
-use Rattle.counters.specs.Applies.{RanIn, run_from, run_told, withdrawal_as}
-use Rattle.counters.specs.CountsLemmas.{Movable, counts_moved, counts_only, held_moved, held_only, held_other, moved_moved, moves_apart, moves_commute, only}
-use Rattle.counters.specs.Fit.{Fit, In, fit}
-use Rattle.counters.specs.MovementsLemmas.{names, sane}
+use Rattle.counters.specs.Lemmas.Applies.{RanIn, run_from, run_told, withdrawal_as}
+use Rattle.counters.specs.Lemmas.Counts.{Movable, counts_moved, counts_only, held_moved, held_only, held_other, moved_moved, moves_apart, moves_commute, only}
+use Rattle.counters.specs.Lemmas.Fit.{Fit, In, fit}
+use Rattle.counters.specs.Lemmas.Movements.{names, sane}
 
 -- two spans that commute, at a count where both apply
 kept : (p q : Span) (x : ℤ) → commuting p q ≡ true → In p x → In q x → In p (x +ℤ q.step) × In q (x +ℤ p.step)

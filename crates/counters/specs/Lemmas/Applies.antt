@@ -13,9 +13,9 @@ use Rattle.counters.specs.Bank.{did, is_reading, shifted, stayed, undone}
 use Rattle.counters.specs.Bounds.{Sane}
 use Rattle.counters.specs.Counts.{Counts, Within, held, in_range, moved}
 use Rattle.counters.specs.Spans.{everywhere, nowhere, run_span, span, withdrawal_span}
-use Rattle.counters.specs.CountsLemmas.{held_within, moved_nothing}
-use Rattle.counters.specs.Fit.{In}
-use Rattle.counters.specs.MovementsLemmas.{Names}
+use Rattle.counters.specs.Lemmas.Counts.{held_within, moved_nothing}
+use Rattle.counters.specs.Lemmas.Fit.{In}
+use Rattle.counters.specs.Lemmas.Movements.{Names}
 
 -- an answer and a state are those of a run in the span p
 abbrev pub RanIn : Span → List ℤ → ℕ → List ℤ → Type 0

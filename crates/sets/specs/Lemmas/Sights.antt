@@ -20,7 +20,7 @@ use Rattle.sets.specs.Kind.{did}
 use Rattle.sets.specs.Members.{Members, keys, member, size}
 use Rattle.sets.specs.Requests.{Sane, meant}
 use Rattle.sets.specs.Traces.{is_count, looked, traced, turned_key}
-use Rattle.sets.specs.Counted.{size_most}
+use Rattle.sets.specs.Lemmas.Counted.{size_most}
 
 -- what a record says that it saw, is so
 abbrev pub Saw : Sight → List Bool → Type 0

@@ -22,8 +22,8 @@ use Rattle.maps.specs.Kind.{did, found_at, replaced}
 use Rattle.maps.specs.Latest.{IsLatest, latest}
 use Rattle.maps.specs.Requests.{Sane, meant}
 use Rattle.maps.specs.Traces.{is_found, is_old, looked, traced, wrote}
-use Rattle.maps.specs.Contents.{same_is}
-use Rattle.maps.specs.LatestLemmas.{latest_right, latest_unique}
+use Rattle.maps.specs.Lemmas.Contents.{same_is}
+use Rattle.maps.specs.Lemmas.Latest.{latest_right, latest_unique}
 
 -- what a record says that it saw, is so
 abbrev pub Saw : Sight → List (Option ℤ) → Type 0

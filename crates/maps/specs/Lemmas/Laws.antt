@@ -14,8 +14,8 @@ use Rattle.maps.specs.Days.{Days, day_count, empty, fits, held, same_content}
 use Rattle.maps.specs.Kind.{dated_map}
 use Rattle.maps.specs.Requests.{meant}
 use Rattle.maps.specs.Traces.{shows, trace, wrote}
-use Rattle.maps.specs.Contents.{empty_days, empty_held, empty_many, same_is, same_same, set_days}
-use Rattle.maps.specs.Sights.{Fair, Saw, Told, blind, does, fair, sane, seen, told, written}
+use Rattle.maps.specs.Lemmas.Contents.{empty_days, empty_held, empty_many, same_is, same_same, set_days}
+use Rattle.maps.specs.Lemmas.Sights.{Fair, Saw, Told, blind, does, fair, sane, seen, told, written}
 
 -- a map of one filled day
 only : ℕ → Option ℤ → List (Option ℤ)

@@ -11,8 +11,8 @@ use Rattle.counters.specs.Bank.{is_reading}
 use Rattle.counters.specs.Bounds.{Amount, Sane}
 use Rattle.counters.specs.Counts.{Within, counters}
 use Rattle.counters.specs.Spans.{everywhere, nowhere, run_span, span, withdrawal_span}
-use Rattle.counters.specs.CountsLemmas.{Movable}
-use Rattle.counters.specs.MovementsLemmas.{Names}
+use Rattle.counters.specs.Lemmas.Counts.{Movable}
+use Rattle.counters.specs.Lemmas.Movements.{Names}
 
 abbrev pub In : Span → ℤ → Type 0
 In p x = (p.low ≤ℤ x) × (x ≤ℤ p.high)

@@ -17,9 +17,9 @@ use Rattle.sets.specs.Kind.{key_set}
 use Rattle.sets.specs.Members.{Members, empty, keys, member, size, turned as turned_from}
 use Rattle.sets.specs.Requests.{meant}
 use Rattle.sets.specs.Traces.{looked, shows, trace, turned_key}
-use Rattle.sets.specs.Bools.{beq_same, beq_true, not_itself, not_not}
-use Rattle.sets.specs.Counted.{first, first_members, one, size_first, size_set, size_with, size_without, sized}
-use Rattle.sets.specs.Sights.{Fair, Saw, Told, blind, counted, does, fair, sane, saw_key, told, turned}
+use Rattle.sets.specs.Lemmas.Bools.{beq_same, beq_true, not_itself, not_not}
+use Rattle.sets.specs.Lemmas.Counted.{first, first_members, one, size_first, size_set, size_with, size_without, sized}
+use Rattle.sets.specs.Lemmas.Sights.{Fair, Saw, Told, blind, counted, does, fair, sane, saw_key, told, turned}
 
 -- a set in which a key is a member, or isn't
 only : ℕ → Bool → List Bool

@@ -12,7 +12,7 @@ use Rattle.std.proofs.lemmas.List.{ext_get_or, get_or-set_same, get_or-set_other
 use Rattle.std.proofs.lemmas.Bool.{cases_eq, cases_order, cond-true, not-false}
 use Rattle.sets.specs.Members.{keys, member, size, turned}
 use Rattle.sets.specs.Words.{bit, members_of}
-use Rattle.sets.specs.Bools.{beq_same, beq_true}
+use Rattle.sets.specs.Lemmas.Bools.{beq_same, beq_true}
 
 abbrev pub word : List ℕ → ℕ → ℕ
 word words k = slice_index words (k / 64)

@@ -4,7 +4,7 @@ use Rattle.objects.specs.declared.records.Operation.{Operation}
 use Rattle.objects.specs.declared.records.Record.{Record}
 use Rattle.objects.specs.Kinds.{Kind, Laws, PlainWithdrawals, Runs}
 use Rattle.layers.specs.Pairs.{goes_left, halved_record, paired, ran_on, tested_on, withdrawn_on}
-use Rattle.layers.specs.Parts.{Disjoint, Part, apart_in, exact_in, never_in, run_lawful_in, sound_in, still_in, undo_in, withdraw_lawful_in}
+use Rattle.layers.specs.Lemmas.Parts.{Disjoint, Part, apart_in, exact_in, never_in, run_lawful_in, sound_in, still_in, undo_in, withdraw_lawful_in}
 
 module _ {S T : Type 0} (a : Kind S) (b : Kind T) where
   abbrev Both : S × T → Type 0

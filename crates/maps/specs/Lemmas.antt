@@ -1,0 +1,5 @@
+-- Proofs, and no rules: the laws of the kind and what leads to them. They stand here since the object names its proof of the laws.
+pub mod Contents
+pub mod Latest
+pub mod Laws
+pub mod Sights
