@@ -4,7 +4,7 @@ use Rattle.std.proofs.lemmas.Int.{ints}
 use Rattle.objects.specs.declared.records.Record.{Record}
 use Rattle.objects.specs.Kinds.{Runs, PlainWithdrawals}
 use Rattle.counters.specs.Bank.{withdrawn}
-use Rattle.counters.specs.Counts.{Counts, held, moved}
+use Rattle.counters.specs.Counts.{Counts, held}
 use Rattle.counters.specs.Kind.{bank}
 use Rattle.counters.specs.Spans.{everywhere}
 use Rattle.counters.specs.Lemmas.Counts.{counts_only, held_moved, held_only, held_within, moved_nothing, only}

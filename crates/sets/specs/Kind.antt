@@ -1,5 +1,5 @@
 -- The kind of a set of keys.
-use Rattle.std.specs.Prelude.{Bool, true, false, cond, List, set, pos, slice_set}
+use Rattle.std.specs.Prelude.{Bool, true, false, cond, List, pos, slice_set}
 use Rattle.std.specs.Bool.{beq}
 use Rattle.objects.specs.declared.records.Answer.{Answer}
 use Rattle.objects.specs.Answers.{absent, already, answer_no, answer_yes, bad, gone, holding, new}
