@@ -10,18 +10,19 @@ use objects::records::{Operation, Record};
 use objects::retract::{Retraction, retract};
 use posting::{BadLine, Later, Posting};
 use std::alloc::{AllocError, Global};
+use std::process::ExitCode;
 
 type Counts = [i64; COUNTERS];
 
 // The order that is taken back.
 const ORDER: u16 = 1;
 
-fn main(rt: HostRuntime) -> anyhow::Result<()> {
+fn main(rt: HostRuntime) -> anyhow::Result<ExitCode> {
     match run(&rt) {
-        Ok(()) => Ok(()),
+        Ok(()) => Ok(ExitCode::SUCCESS),
         Err(fault) => {
             eprintln!(rt; "juddrevan: {fault}")?;
-            Err(fault)
+            Ok(ExitCode::FAILURE)
         }
     }
 }

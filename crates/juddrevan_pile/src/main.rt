@@ -12,16 +12,17 @@ use objects::retract::{Retraction, retract};
 use pile::new_pile;
 use posting::{Asked, BadLine, Later, Posting, Told};
 use std::alloc::{AllocError, Global};
+use std::process::ExitCode;
 
 // The order that is taken back.
 const ORDER: u16 = 1;
 
-fn main(rt: HostRuntime) -> anyhow::Result<()> {
+fn main(rt: HostRuntime) -> anyhow::Result<ExitCode> {
     match run(&rt) {
-        Ok(()) => Ok(()),
+        Ok(()) => Ok(ExitCode::SUCCESS),
         Err(fault) => {
             eprintln!(rt; "juddrevan: {fault}")?;
-            Err(fault)
+            Ok(ExitCode::FAILURE)
         }
     }
 }
