@@ -6,6 +6,7 @@ ghost use Rattle.counters.specs.Counts.{ceiling, counters};
 ghost use Rattle.counters.specs.Kind.{bank};
 ghost use Rattle.counters.specs.Bounds.{Small};
 ghost use Rattle.std.specs.Int.Signed.{le_z_yes};
+ghost use Rattle.counters.specs.Lemmas.Counts.{counts_of};
 ghost use Rattle.counters.specs.Lemmas.Laws.{bank_laws};
 
 use crate::bank::{CounterBank, in_range};
@@ -41,7 +42,7 @@ impl Object for CounterBank {
 
     ghost state = { λ b. b.counts };
 
-    ghost lawful = { λ x. record { many = x.many; each = x.each } };
+    ghost lawful = { λ x. counts_of ceiling x.counts x.many x.each };
 
     ghost laws = { λ x. bank_laws ceiling (le_z_yes tt) };
 

@@ -5,6 +5,7 @@ ghost use Rattle.objects.specs.Traces.{restored};
 ghost use Rattle.maps.specs.Days.{day_count, fits, held, same_content};
 ghost use Rattle.maps.specs.Kind.{dated_map};
 ghost use Rattle.maps.specs.Latest.{latest};
+ghost use Rattle.maps.specs.Lemmas.Contents.{days_of};
 ghost use Rattle.maps.specs.Lemmas.Laws.{dated_map_laws};
 
 use crate::days::DatedMap;
@@ -72,7 +73,7 @@ impl Object for DatedMap {
 
     ghost state = { λ m. m.days };
 
-    ghost lawful = { λ x. record { many = x.many; each = x.each } };
+    ghost lawful = { λ x. days_of x.days x.many x.each };
 
     ghost laws = { λ x. dated_map_laws };
 

@@ -4,7 +4,7 @@ ghost use Rattle.std.specs.Option.{unwrap_or};
 ghost use Rattle.sets.specs.Kind.{key_set};
 ghost use Rattle.sets.specs.Members.{keys, member, size, turned};
 ghost use Rattle.sets.specs.Words.{members_of};
-ghost use Rattle.sets.specs.Lemmas.Words.{members_many};
+ghost use Rattle.sets.specs.Lemmas.Words.{members_lawful};
 ghost use Rattle.sets.specs.Lemmas.Laws.{key_set_laws};
 
 use crate::bits::BitSet;
@@ -57,7 +57,7 @@ impl Object for BitSet {
 
     ghost state = { λ s. members_of s.words };
 
-    ghost lawful = { λ x. record { many = members_many x.words } };
+    ghost lawful = { λ x. members_lawful x.words };
 
     ghost laws = { λ x. key_set_laws };
 

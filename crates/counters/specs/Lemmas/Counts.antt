@@ -6,6 +6,9 @@ use Rattle.std.proofs.lemmas.Bool.{cases_eq, cases_lt}
 use Rattle.std.proofs.lemmas.Int.{ints}
 use Rattle.counters.specs.Counts.{Counts, Each, Within, counters, held, moved, zeros}
 
+pub counts_of : (c : ℤ) (s : List ℤ) → length s ≡ counters → Each c s → Counts c s
+counts_of c s many each = record { many = many; each = each }
+
 -- zero is in every range
 pub zero_within : (c : ℤ) → pos 0 ≤ℤ c → Within c (pos 0)
 zero_within c least = (omega (arith, ints), least)

@@ -6,6 +6,9 @@ use Rattle.std.proofs.lemmas.Int.{ints}
 use Rattle.std.proofs.lemmas.Bool.{both_ways, cases_eq}
 use Rattle.maps.specs.Days.{Days, Each, day_count, empty, fits, held, same_content}
 
+pub days_of : (s : List (Option ℤ)) → length s ≡ day_count → Each s → Days s
+days_of s many each = record { many = many; each = each }
+
 pub empty_many : length empty ≡ day_count
 unfolding empty
 empty_many = length-replicate {A = Option ℤ} day_count None

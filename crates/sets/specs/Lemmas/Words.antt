@@ -10,7 +10,7 @@ use Rattle.std.proofs.lemmas.Nat.{div_below, div-mul-add, mod_below, mod-mul-add
 use Rattle.std.proofs.lemmas.List.FromFn.{get_or-map-range_with_len, length-map-range_with_len, sum_by-map-range_with_len_more}
 use Rattle.std.proofs.lemmas.List.{ext_get_or, get_or-set_same, get_or-set_other, length-set}
 use Rattle.std.proofs.lemmas.Bool.{cases_eq, cases_order, cond-true, not-false}
-use Rattle.sets.specs.Members.{keys, member, size, turned}
+use Rattle.sets.specs.Members.{Members, keys, member, size, turned}
 use Rattle.sets.specs.Words.{bit, members_of}
 use Rattle.sets.specs.Lemmas.Bools.{beq_same, beq_true}
 
@@ -20,6 +20,9 @@ word words k = slice_index words (k / 64)
 pub members_many : (words : List ℕ) → length (members_of words) ≡ keys
 unfolding members_of
 members_many words = length-map-range_with_len (λ k. bit (word words k) (k % 64)) 0 keys
+
+pub members_lawful : (words : List ℕ) → Members (members_of words)
+members_lawful words = record { many = members_many words }
 
 pub member_bit : (words : List ℕ) (k : ℕ) → k < keys → member (members_of words) k ≡ bit (word words k) (k % 64)
 unfolding members_of
