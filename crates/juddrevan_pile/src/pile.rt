@@ -2,9 +2,9 @@
 ghost use Rattle.std.specs.Prelude.{◌≡◌, ◌∷◌, replicate};
 ghost use Rattle.objects.specs.declared.records.Operation.{Operation};
 ghost use Rattle.counters.specs.Counts.{zeros};
-ghost use Rattle.sets.specs.Members.{empty as no-members};
+ghost use Rattle.sets.specs.Members.{empty as no_members};
 ghost use Rattle.sets.specs.Words.{members_of};
-ghost use Rattle.maps.specs.Days.{empty as no-days};
+ghost use Rattle.maps.specs.Days.{empty as no_days};
 ghost use Rattle.juddrevan_pile.specs.Routes.{Reaches};
 
 use counters::bank::CounterBank;
@@ -26,8 +26,8 @@ pub fn new_pile() -> Pile
     ensures targets { result.left.filter.targets ≡ 3 ∷ 3 ∷ replicate 30 1000 }
     ensures day { result.right.right.filter.day ≡ 100 }
     ensures counts { result.left.below.counts ≡ zeros }
-    ensures members { members_of result.right.left.words ≡ no-members }
-    ensures days { result.right.right.below.days ≡ no-days }
+    ensures members { members_of result.right.left.words ≡ no_members }
+    ensures days { result.right.right.below.days ≡ no_days }
 {
     let mut targets = [FIRST_ALIAS; ALIASES];
     targets[0] = 3;
