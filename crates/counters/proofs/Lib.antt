@@ -1,3 +1,4 @@
+pub mod Wide
 pub mod Spans
 pub mod Withdrawals
 pub mod Shifts

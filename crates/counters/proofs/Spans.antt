@@ -1,5 +1,5 @@
 -- Lemmas on spans.
-use Rattle.std.proofs.Common.{◌≡◌, false, ◌&&◌, ℤ, ◌+ℤ◌, sym, ◌∙◌, subst, ap₂, arith, w64, to_z, of_z}
+use Rattle.std.proofs.Common.{◌≡◌, false, ◌&&◌, ℤ, ◌+ℤ◌, sym, ◌∙◌, subst, ap₂, arith, w64, to_z, of_z, Option, Some, None}
 use lib.Signed.{le_z, lt_z}
 use Rattle.std.specs.Int.{int_max, int_min}
 use Rattle.std.proofs.lemmas.Int.{ints, to_z-of_z}
@@ -7,7 +7,7 @@ use Rattle.std.proofs.lemmas.Bool.{cond_both}
 use Rattle.counters.specs.declared.span.Span.{Span}
 use Rattle.objects.specs.declared.records.Answer.{Answer}
 use Rattle.counters.specs.declared.movement.Movement.{Movement}
-use Rattle.counters.specs.declared.movement.Movement.TheVariants.{Add, Take, Read, Bad}
+use Rattle.counters.specs.declared.movement.Movement.TheVariants.{Add, Take, Read}
 use Rattle.counters.specs.Bounds.{Bounded, Sane, Small}
 use Rattle.counters.specs.Counts.{ceiling}
 use Rattle.counters.specs.Spans.{commuting, run_span, withdrawal_span}
@@ -49,14 +49,14 @@ by_bounds p q m k bp bq em ek meet =
     (ap₂ ◌&&◌ (ap₂ le_z (small_bits _ bq.0) (small_sum _ _ sm bp.2)) (ap₂ le_z (small_sum _ _ sk bp.2) (small_bits _ bq.1)))
     ∙ met p q m k m_is k_is (sym (ap₂ lt_z (small_bits _ sk) (small_bits _ sm)) ∙ meet)
 
-pub run_bounded : (m : Movement) (a : Answer) → Sane ceiling m → Bounded ceiling (run_span ceiling m a)
-run_bounded (Add k n) a h = grind (arith, ints)
-run_bounded (Take k n) a h = grind (arith, ints)
-run_bounded (Read k) a h = grind (arith, ints)
-run_bounded Bad a h = grind (arith, ints)
+pub run_bounded : (m : Option Movement) (a : Answer) → Sane ceiling m → Bounded ceiling (run_span ceiling m a)
+run_bounded (Some (Add k n)) a h = grind (arith, ints)
+run_bounded (Some (Take k n)) a h = grind (arith, ints)
+run_bounded (Some (Read k)) a h = grind (arith, ints)
+run_bounded None a h = grind (arith, ints)
 
-pub withdrawal_bounded : (m : Movement) (a : Answer) → Sane ceiling m → Bounded ceiling (withdrawal_span ceiling m a)
-withdrawal_bounded (Add k n) a h = grind (arith, ints)
-withdrawal_bounded (Take k n) a h = grind (arith, ints)
-withdrawal_bounded (Read k) a h = grind (arith, ints)
-withdrawal_bounded Bad a h = grind (arith, ints)
+pub withdrawal_bounded : (m : Option Movement) (a : Answer) → Sane ceiling m → Bounded ceiling (withdrawal_span ceiling m a)
+withdrawal_bounded (Some (Add k n)) a h = grind (arith, ints)
+withdrawal_bounded (Some (Take k n)) a h = grind (arith, ints)
+withdrawal_bounded (Some (Read k)) a h = grind (arith, ints)
+withdrawal_bounded None a h = grind (arith, ints)

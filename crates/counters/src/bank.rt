@@ -1,7 +1,7 @@
 // A bank of counters.
-ghost use Rattle.std.specs.Prelude.{◌≡◌, length};
+ghost use Rattle.std.specs.Prelude.{◌≡◌};
 ghost use Rattle.objects.specs.Kinds.{PlainWithdrawals};
-ghost use Rattle.counters.specs.Counts.{Each, ceiling, counters, in_range, zeros};
+ghost use Rattle.counters.specs.Counts.{Counts, ceiling, in_range, zeros};
 ghost use Rattle.counters.specs.Kind.{bank};
 
 // How many counters a bank has.
@@ -10,11 +10,11 @@ pub const COUNTERS: usize = 32;
 // What a counter holds at most.
 pub const CEILING: i64 = 1_000_000;
 
+// As many counters as there are, and no heap: the memory of a controller is a stated budget.
 #[derive(Drop)]
 pub struct CounterBank {
     pub(crate) counts: [i64; COUNTERS],
-    ghost many: { length counts ≡ counters },
-    ghost each: { Each ceiling counts },
+    ghost lawful: { Counts ceiling counts },
 }
 
 impl CounterBank {
@@ -29,9 +29,9 @@ impl CounterBank {
     }
 }
 
-// Whether a counter can hold this.
+// Whether a counter can hold this. The map's test has other bounds: what the two share is `contains`.
 pub fn in_range(count: i64) -> bool
     ensures { result ≡ in_range ceiling count }
 {
-    count >= 0 && count <= CEILING
+    (0..=CEILING).contains(&count)
 }

@@ -5,7 +5,7 @@ ghost use Rattle.counters.specs.Bounds.{Sane};
 ghost use Rattle.counters.specs.Counts.{ceiling};
 ghost use Rattle.counters.specs.Movements.{meant};
 
-use crate::bank::{CEILING, in_range};
+use crate::bank::CEILING;
 use objects::codes;
 use objects::codes::Family;
 use objects::records::{Answer, Operation};
@@ -15,35 +15,30 @@ pub enum Movement {
     Add(u32, i64),
     Take(u32, i64),
     Read(u32),
-    Bad,
 }
 
 impl Movement {
-    pub fn of(operation: &Operation) -> Movement
+    // None where the operation is bad for the bank. No `TryFrom`: that has one clause, and its error would carry nothing.
+    pub fn of(operation: &Operation) -> Option<Movement>
         ensures value { result ≡ meant ceiling operation.now }
         ensures sane { Sane ceiling result }
     {
+        let row = codes::own_rule(Family::Counter, operation)?;
         let Operation {
             code,
-            unit,
             key,
             amount,
+            ..
         } = *operation;
-        let Some(row) = codes::rule_of(code) else {
-            return Movement::Bad;
-        };
-        if unit != 0 || row.family != Family::Counter || key > row.last_key {
-            return Movement::Bad;
-        }
         // Of the counter's codes, those that change it take an amount.
-        if row.changes && (amount < 1 || amount > CEILING) {
-            return Movement::Bad;
+        if row.changes && !(1..=CEILING).contains(&amount) {
+            return None;
         }
         match code {
-            codes::ADD => Movement::Add(key, amount),
-            codes::TAKE => Movement::Take(key, amount),
-            codes::READ => Movement::Read(key),
-            _ => Movement::Bad,
+            codes::ADD => Some(Movement::Add(key, amount)),
+            codes::TAKE => Some(Movement::Take(key, amount)),
+            codes::READ => Some(Movement::Read(key)),
+            _ => None,
         }
     }
 }
@@ -52,5 +47,5 @@ impl Movement {
 pub fn is_reading(answer: Answer) -> bool
     ensures { result ≡ is_reading ceiling answer }
 {
-    answer == Answer::value(answer.value) && in_range(answer.value)
+    answer.is_value_to(CEILING)
 }

@@ -6,7 +6,6 @@ ghost use Rattle.counters.specs.Counts.{ceiling, counters};
 ghost use Rattle.counters.specs.Kind.{bank};
 ghost use Rattle.counters.specs.Bounds.{Small};
 ghost use Rattle.std.specs.Int.Signed.{le_z_yes};
-ghost use Rattle.counters.specs.Lemmas.Counts.{counts_of};
 ghost use Rattle.counters.specs.Lemmas.Laws.{bank_laws};
 
 use crate::bank::{CounterBank, in_range};
@@ -42,40 +41,42 @@ impl Object for CounterBank {
 
     ghost state = { λ b. b.counts };
 
-    ghost lawful = { λ x. counts_of ceiling x.counts x.many x.each };
+    ghost lawful = { λ x. x.lawful };
 
     ghost laws = { λ x. bank_laws ceiling (le_z_yes tt) };
 
+    #[tactic(auto, using(crate::proofs::Wide::wide))]
     fn run(&mut self, operation: Operation) -> Answer {
         match Movement::of(&operation) {
-            Movement::Add(key, n) => {
+            Some(Movement::Add(key, n)) => {
                 if self.shift(key, n) {
                     Answer::DONE
                 } else {
                     Answer::FULL
                 }
             }
-            Movement::Take(key, n) => {
+            Some(Movement::Take(key, n)) => {
                 if self.shift(key, -n) {
                     Answer::DONE
                 } else {
                     Answer::SHORT
                 }
             }
-            Movement::Read(key) => Answer::value(self.counts[key as usize]),
-            Movement::Bad => Answer::BAD,
+            Some(Movement::Read(key)) => Answer::value(self.counts[key as usize]),
+            None => Answer::BAD,
         }
     }
 
+    #[tactic(auto, using(crate::proofs::Wide::wide))]
     fn withdraw(&mut self, record: &Record) -> bool {
         let answer = record.answer;
         match Movement::of(&record.operation) {
-            Movement::Add(key, n) if answer == Answer::DONE => self.shift(key, -n),
-            Movement::Add(..) => answer == Answer::FULL,
-            Movement::Take(key, n) if answer == Answer::DONE => self.shift(key, n),
-            Movement::Take(..) => answer == Answer::SHORT,
-            Movement::Read(_) => is_reading(answer),
-            Movement::Bad => answer == Answer::BAD,
+            Some(Movement::Add(key, n)) if answer == Answer::DONE => self.shift(key, -n),
+            Some(Movement::Add(..)) => answer == Answer::FULL,
+            Some(Movement::Take(key, n)) if answer == Answer::DONE => self.shift(key, n),
+            Some(Movement::Take(..)) => answer == Answer::SHORT,
+            Some(Movement::Read(_)) => is_reading(answer),
+            None => answer == Answer::BAD,
         }
     }
 

@@ -22,6 +22,7 @@ impl Span {
         step: 0,
     };
 
+    // An empty range and no option: the comparison of two spans has one case so, and not four.
     const NOWHERE: Span = Span {
         low: 1,
         high: 0,
@@ -40,12 +41,20 @@ impl Span {
     {
         let answer = record.answer;
         match Movement::of(&record.operation) {
-            Movement::Add(_, n) if answer == Answer::DONE => Span::new(0, CEILING - n, n),
-            Movement::Add(_, n) if answer == Answer::FULL => Span::new(CEILING - n + 1, CEILING, 0),
-            Movement::Take(_, n) if answer == Answer::DONE => Span::new(n, CEILING, -n),
-            Movement::Take(_, n) if answer == Answer::SHORT => Span::new(0, n - 1, 0),
-            Movement::Read(_) if is_reading(answer) => Span::new(answer.value, answer.value, 0),
-            Movement::Bad if answer == Answer::BAD => Span::EVERYWHERE,
+            Some(Movement::Add(_, n)) if answer == Answer::DONE => Span::new(0, CEILING - n, n),
+            Some(Movement::Add(_, n)) if answer == Answer::FULL => Span::new(
+                CEILING - n + 1,
+                CEILING,
+                0,
+            ),
+            Some(Movement::Take(_, n)) if answer == Answer::DONE => Span::new(n, CEILING, -n),
+            Some(Movement::Take(_, n)) if answer == Answer::SHORT => Span::new(0, n - 1, 0),
+            Some(Movement::Read(_)) if is_reading(answer) => Span::new(
+                answer.value,
+                answer.value,
+                0,
+            ),
+            None if answer == Answer::BAD => Span::EVERYWHERE,
             _ => Span::NOWHERE,
         }
     }
@@ -56,17 +65,18 @@ impl Span {
     {
         let answer = record.answer;
         match Movement::of(&record.operation) {
-            Movement::Add(_, n) if answer == Answer::DONE => Span::new(n, CEILING, -n),
-            Movement::Add(..) if answer == Answer::FULL => Span::EVERYWHERE,
-            Movement::Take(_, n) if answer == Answer::DONE => Span::new(0, CEILING - n, n),
-            Movement::Take(..) if answer == Answer::SHORT => Span::EVERYWHERE,
-            Movement::Read(_) if is_reading(answer) => Span::EVERYWHERE,
-            Movement::Bad if answer == Answer::BAD => Span::EVERYWHERE,
+            Some(Movement::Add(_, n)) if answer == Answer::DONE => Span::new(n, CEILING, -n),
+            Some(Movement::Add(..)) if answer == Answer::FULL => Span::EVERYWHERE,
+            Some(Movement::Take(_, n)) if answer == Answer::DONE => Span::new(0, CEILING - n, n),
+            Some(Movement::Take(..)) if answer == Answer::SHORT => Span::EVERYWHERE,
+            Some(Movement::Read(_)) if is_reading(answer) => Span::EVERYWHERE,
+            None if answer == Answer::BAD => Span::EVERYWHERE,
             _ => Span::NOWHERE,
         }
     }
 
     // Whether a withdrawal in `self` and a run in `later` commute at every count: `low` to `high` is where both apply.
+    #[tactic(auto, using(crate::proofs::Wide::wide))]
     fn commutes(self, later: Span) -> bool
         requires { (Bounded ceiling self) × (Bounded ceiling later) }
         ensures { result ≡ commuting self later }

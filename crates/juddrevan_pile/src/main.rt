@@ -3,41 +3,42 @@
 
 mod movement;
 mod pile;
-mod posting;
 
-use movement::{movement, question};
+use movement::{movement_of, question};
 use objects::object::Object;
-use objects::records::{Answer, Operation, Record};
-use objects::retract::{Retraction, retract};
+use objects::records::{Answer, Operation};
 use pile::new_pile;
-use posting::{Asked, BadLine, Later, Posting, Told};
+use samples::day;
+use samples::posting::Posting;
+use samples::status::status;
+use samples::words::{Asked, Told};
 use std::alloc::{AllocError, Global};
 use std::process::ExitCode;
 
 // The order that is taken back.
 const ORDER: u16 = 1;
 
+// What a line has to be.
+const FORM: &str = "ORDER VERB KEY AMOUNT";
+
 fn main(rt: HostRuntime) -> anyhow::Result<ExitCode> {
-    match run(&rt) {
-        Ok(()) => Ok(ExitCode::SUCCESS),
-        Err(fault) => {
-            eprintln!(rt; "juddrevan: {fault}")?;
-            Ok(ExitCode::FAILURE)
-        }
-    }
+    let outcome = run(&rt);
+    status(&rt, "juddrevan", outcome)
 }
 
+// The same steps as over the bank. One for both would take as closures what is asked three times and how it is printed: no plainer.
+// What is asked three times comes in three lists, which are zipped where they are printed.
 fn run(rt: &HostRuntime) -> anyhow::Result<()> {
     let mut pile = new_pile();
     println!(rt; "Posted:")?;
-    let mut postings = post_all(rt, &mut pile)?;
+    let mut postings = day::post_all(rt, &mut pile, movement_of, FORM)?;
     let questions = questions(rt.alloc(), postings.as_slice())?;
     let before = ask(rt.alloc(), &mut pile, questions.as_slice())?;
     println!(rt; "Order {ORDER} is taken back, its latest movement first:")?;
-    take_back(rt, &mut pile, &mut postings)?;
+    day::take_back(rt, &mut pile, &mut postings, ORDER)?;
     let after = ask(rt.alloc(), &mut pile, questions.as_slice())?;
     let mut fresh = new_pile();
-    replay(&mut fresh, postings.as_slice());
+    day::replay(&mut fresh, postings.as_slice());
     let never = ask(rt.alloc(), &mut fresh, questions.as_slice())?;
     println!(rt; "Before, after, and had the withdrawn movements never been posted:")?;
     let answers = before.iter().zip(after.iter()).zip(never.iter());
@@ -51,78 +52,6 @@ fn run(rt: &HostRuntime) -> anyhow::Result<()> {
         )?;
     }
     Ok(())
-}
-
-// Posts the movements that standard input names, one a line, and prints each with its answer.
-fn post_all<O: Object>(rt: &HostRuntime, object: &mut O) -> anyhow::Result<Vec<Posting>> {
-    let mut postings = Vec::new(rt.alloc());
-    for (i, line) in rt.lines(rt.alloc()).enumerate() {
-        let line = line?;
-        let number = i.saturating_add(1);
-        let (order, operation) = movement(line.as_str()).ok_or(BadLine(number))?;
-        let record = Record {
-            operation,
-            answer: object.run(operation),
-        };
-        let posting = Posting {
-            order,
-            record,
-            standing: true,
-        };
-        println!(rt; "{number:>3}. {posting}")?;
-        postings.push(posting)?;
-    }
-    Ok(postings)
-}
-
-// Takes the order's movements back, the latest first, each past all that still stands after it.
-fn take_back<O: Object>(
-    rt: &HostRuntime,
-    object: &mut O,
-    postings: &mut Vec<Posting>,
-) -> anyhow::Result<()> {
-    for i in (0..postings.len()).rev() {
-        let number = i.saturating_add(1);
-        let posting = postings[i];
-        if posting.order != ORDER {
-            continue;
-        }
-        let later = standing_after(rt.alloc(), postings.as_slice(), i)?;
-        match retract(object, &posting.record, later.records.as_slice()) {
-            Retraction::Withdrawn => {
-                postings[i].standing = false;
-                println!(rt; "{number:>3}. withdrawn")?;
-            }
-            Retraction::Inapplicable => println!(rt; "{number:>3}. stays: it cannot have run")?,
-            Retraction::Blocked(at) => {
-                let other = later.places[at].saturating_add(1);
-                println!(rt; "{number:>3}. stays: {other} stands in the way")?;
-            }
-        }
-    }
-    Ok(())
-}
-
-// The standing movements after the one at index i.
-fn standing_after(heap: Global, postings: &[Posting], i: usize) -> Result<Later, AllocError> {
-    let mut places = Vec::new(heap);
-    let mut records = Vec::new(heap);
-    for (at, posting) in postings.iter().enumerate() {
-        if at > i && posting.standing {
-            places.push(at)?;
-            records.push(posting.record)?;
-        }
-    }
-    Ok(Later { places, records })
-}
-
-// Runs what still stands, and nothing else, on another object.
-fn replay<O: Object>(object: &mut O, postings: &[Posting]) {
-    for posting in postings {
-        if posting.standing {
-            let _ = object.run(posting.record.operation);
-        }
-    }
 }
 
 // What the movements are about, each once.

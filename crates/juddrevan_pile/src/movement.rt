@@ -1,4 +1,4 @@
-// A line of the sample: ORDER VERB KEY AMOUNT.
+// The movements of the sample, by the object that they are for.
 ghost use Rattle.std.specs.Prelude.{◌≡◌, IfSome};
 ghost use Rattle.objects.specs.Codes.{family};
 ghost use Rattle.juddrevan_pile.specs.Questions.{asked_by};
@@ -7,46 +7,22 @@ ghost use Rattle.juddrevan_pile.specs.Routes.{Reaches};
 use crate::pile::unit_of;
 use objects::codes;
 use objects::records::Operation;
+use samples::movement::Movement;
 
-// The order and the operation of a line; none where the line is no movement.
-pub fn movement(line: &str) -> Option<(u16, Operation)>
-    ensures { IfSome result (λ m. Reaches (family m.1.code) m.1) }
+// A line's movement, on the object of the pile that its verb is for; none of another line.
+pub fn movement_of(line: &str) -> Option<Movement>
+    ensures { IfSome result (λ m. Reaches (family m.operation.code) m.operation) }
 {
-    let mut words = line.split_whitespace();
-    let order = words.next()?.parse::<u16>().ok()?;
-    let code = code_of(words.next()?)?;
-    let key = words.next()?.parse::<u32>().ok()?;
-    let amount = words.next()?.parse::<i64>().ok()?;
-    if words.next().is_some() {
-        return None;
-    }
-    let row = codes::rule_of(code)?;
+    let movement = line.parse::<Movement>().ok()?;
+    let row = codes::rule_of(movement.operation.code)?;
     let unit = unit_of(row.family);
-    Some((
-        order,
-        Operation {
-            code,
+    Some(Movement {
+        operation: Operation {
             unit,
-            key,
-            amount,
+            ..movement.operation
         },
-    ))
-}
-
-fn code_of(verb: &str) -> Option<u8> {
-    match verb {
-        "add" => Some(codes::ADD),
-        "take" => Some(codes::TAKE),
-        "read" => Some(codes::READ),
-        "insert" => Some(codes::INSERT),
-        "remove" => Some(codes::REMOVE),
-        "has" => Some(codes::HAS),
-        "size" => Some(codes::SIZE),
-        "put" => Some(codes::PUT),
-        "drop" => Some(codes::DROP),
-        "find" => Some(codes::FIND),
-        _ => None,
-    }
+        ..movement
+    })
 }
 
 // The operation that asks for what this one moved or saw, and moves nothing.

@@ -32,21 +32,12 @@ impl Filter for Alias {
     ghost passes = { aliased };
 
     fn pass(&self, operation: Operation) -> Result<Operation, Answer> {
-        let key = operation.key;
-        if key < FIRST_ALIAS {
+        let Some(alias) = operation.key.checked_sub(FIRST_ALIAS) else {
             return Ok(operation);
+        };
+        match self.targets.get(alias as usize) {
+            Some(&key) if key < FIRST_ALIAS => Ok(Operation { key, ..operation }),
+            _ => Err(Answer::BAD),
         }
-        let index = (key - FIRST_ALIAS) as usize;
-        if index >= ALIASES {
-            return Err(Answer::BAD);
-        }
-        let target = self.targets[index];
-        if target >= FIRST_ALIAS {
-            return Err(Answer::BAD);
-        }
-        Ok(Operation {
-            key: target,
-            ..operation
-        })
     }
 }

@@ -43,13 +43,11 @@ impl<F: Filter, O: Object> Filtered<F, O> {
     fn passed(&self, record: &Record) -> Option<Record>
         ensures { result ≡ passed_record (F.Filter.passes (F.Filter.fixed self.now.filter) «record».now.operation) «record».now.answer }
     {
-        match self.filter.pass(record.operation) {
-            Ok(operation) => Some(Record {
-                operation,
-                answer: record.answer,
-            }),
-            Err(_) => None,
-        }
+        let operation = self.filter.pass(record.operation).ok()?;
+        Some(Record {
+            operation,
+            answer: record.answer,
+        })
     }
 }
 

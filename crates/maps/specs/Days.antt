@@ -1,5 +1,7 @@
 -- The days of a map, each empty or with a value.
-use Rattle.std.specs.Prelude.{◌≡◌, ℕ, ◌<◌, Bool, true, false, ◌&&◌, List, length, replicate, ℤ, pos, neg_ℤ, Some, None, Option, int_le, slice_index_or}
+use Rattle.std.specs.Prelude.{◌≡◌, ℕ, ◌<◌, Bool, true, ◌&&◌, List, length, replicate, ℤ, pos, neg_ℤ, Some, None, Option, int_le, slice_index_or}
+use Rattle.std.specs.Option.{option_eq}
+use Rattle.std.specs.Ordering.{int_eq}
 
 abbrev pub day_count : ℕ
 day_count = 512
@@ -25,15 +27,9 @@ fits (Some v) = in_range v
 
 -- two days hold the same
 abbrev pub same_content : Option ℤ → Option ℤ → Bool
-same_content None None = true
-same_content None (Some w) = false
-same_content (Some v) None = false
-same_content (Some v) (Some w) = int_le v w && int_le w v
-
-abbrev pub Each : List (Option ℤ) → Type 0
-Each s = (d : ℕ) → d < day_count → fits (held s d) ≡ true
+same_content = option_eq int_eq
 
 -- the lawful states
 pub record Days (s : List (Option ℤ)) : Type 0 where
   pub many : length s ≡ day_count
-  pub each : Each s
+  pub each : (d : ℕ) → d < day_count → fits (held s d) ≡ true

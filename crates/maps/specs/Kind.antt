@@ -9,7 +9,7 @@ use Rattle.maps.specs.Latest.{latest}
 use Rattle.maps.specs.Requests.{meant}
 use Rattle.maps.specs.Traces.{shows, trace}
 use Rattle.maps.specs.declared.request.Request.{Request}
-use Rattle.maps.specs.declared.request.Request.TheVariants.{Put, Drop, Find, Bad}
+use Rattle.maps.specs.declared.request.Request.TheVariants.{Put, Drop, Find}
 
 -- old with the value that the day held; another answer where it was empty
 abbrev pub replaced : Answer → Option ℤ → Answer
@@ -20,11 +20,11 @@ abbrev pub found_at : Option (ℕ × ℤ) → Answer
 found_at None = nothing
 found_at (Some x) = found x.0 x.1
 
-abbrev pub did : List (Option ℤ) → Request → Answer × List (Option ℤ)
-did s (Put d v) = (replaced new (held s d), slice_set s d (Some v))
-did s (Drop d) = (replaced absent (held s d), slice_set s d None)
-did s (Find d) = (found_at (latest s d), s)
-did s Bad = (bad, s)
+abbrev pub did : List (Option ℤ) → Option Request → Answer × List (Option ℤ)
+did s (Some (Put d v)) = (replaced new (held s d), slice_set s d (Some v))
+did s (Some (Drop d)) = (replaced absent (held s d), slice_set s d None)
+did s (Some (Find d)) = (found_at (latest s d), s)
+did s None = (bad, s)
 
 abbrev pub dated_map : Kind (List (Option ℤ))
 dated_map = record {

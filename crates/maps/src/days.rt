@@ -1,7 +1,7 @@
 // A map from days to values.
-ghost use Rattle.std.specs.Prelude.{◌≡◌, length};
+ghost use Rattle.std.specs.Prelude.{◌≡◌};
 ghost use Rattle.objects.specs.Kinds.{PlainWithdrawals};
-ghost use Rattle.maps.specs.Days.{Each, day_count, empty};
+ghost use Rattle.maps.specs.Days.{Days, empty};
 ghost use Rattle.maps.specs.Kind.{dated_map};
 ghost use Rattle.maps.specs.Latest.{FindsTheLatest};
 
@@ -11,11 +11,11 @@ pub const DAYS: usize = 512;
 // Values go from minus this to this.
 pub const LARGEST: i64 = 1_000_000_000;
 
+// A place for each day and no heap: the memory of a controller is a stated budget.
 #[derive(Drop)]
 pub struct DatedMap {
     pub(crate) days: [Option<i64>; DAYS],
-    ghost many: { length days ≡ day_count },
-    ghost each: { Each days },
+    ghost lawful: { Days days },
 }
 
 impl DatedMap {

@@ -1,64 +1,60 @@
 // The map as an object.
-ghost use Rattle.std.specs.Prelude.{◌≡◌, ◌<◌, true, List, ℤ, is_some, Some, None, Option, slice_set};
+ghost use Rattle.std.specs.Prelude.{◌≡◌, true, List, ℤ, is_some, Some, None, Option, slice_set};
 ghost use Rattle.std.specs.Option.{unwrap_or};
 ghost use Rattle.objects.specs.Traces.{restored};
-ghost use Rattle.maps.specs.Days.{day_count, fits, held, same_content};
+ghost use Rattle.maps.specs.Days.{fits, held, same_content};
 ghost use Rattle.maps.specs.Kind.{dated_map};
 ghost use Rattle.maps.specs.Latest.{latest};
-ghost use Rattle.maps.specs.Lemmas.Contents.{days_of};
 ghost use Rattle.maps.specs.Lemmas.Laws.{dated_map_laws};
 
-use crate::days::DatedMap;
+use crate::days::{DAYS, DatedMap};
 use crate::request::Request;
-use crate::trace::{same_content, trace_of};
+use crate::trace::trace_of;
 use objects::object::Object;
 use objects::records::{Answer, Operation, Record};
+use objects::traces;
 use objects::traces::Change;
 
 impl DatedMap {
-    // What a day holds.
+    // What a day holds; one past the last holds nothing.
     fn content(&self, day: u32) -> Option<i64>
-        requires { day < day_count }
         ensures { result ≡ held self.now.days day }
     {
-        self.days[day as usize]
+        self.days.get(day as usize).copied().flatten()
     }
 
-    // Sets what a day holds, and gives what it held before.
+    // Sets what a day holds, and gives what it held before; one past the last stays empty.
     fn replace(&mut self, day: u32, content: Option<i64>) -> Option<i64>
-        requires { (day < day_count) × (fits content ≡ true) }
+        requires { fits content ≡ true }
         ensures before { result ≡ held self.old.days day }
         ensures after { self.new.days ≡ slice_set self.old.days day content }
     {
-        let before = self.content(day);
-        self.days[day as usize] = content;
-        before
+        let at = day as usize;
+        // tried `get_mut`: its contract does not say what the days are after the write.
+        if at >= DAYS {
+            return None;
+        }
+        std::mem::replace(&mut self.days[at], content)
     }
 
     // Takes a change back where its day holds what it left there, and says whether it did.
     fn restore(&mut self, change: Change<Option<i64>>) -> bool
-        requires { (change.place < day_count) × (fits change.before ≡ true) }
+        requires { fits change.before ≡ true }
         ensures applies { result ≡ is_some (restored same_content None self.old.days (Some change)) }
         ensures after { self.new.days ≡ unwrap_or (restored same_content None self.old.days (Some change)) self.old.days }
     {
-        if !same_content(self.content(change.place), change.after) {
-            return false;
+        let stands = self.content(change.place) == change.after;
+        if stands {
+            self.replace(change.place, change.before);
         }
-        let _ = self.replace(change.place, change.before);
-        true
+        stands
     }
 
     // The latest filled day not after this one, with its value.
     fn latest(&self, day: u32) -> Option<(u32, i64)>
-        requires { day < day_count }
         ensures { result ≡ latest self.now.days day }
     {
-        for at in (0..=day).rev() {
-            if let Some(value) = self.content(at) {
-                return Some((at, value));
-            }
-        }
-        None
+        (0..=day).rev().find_map(|at| Some((at, self.content(at)?)))
     }
 }
 
@@ -73,28 +69,29 @@ impl Object for DatedMap {
 
     ghost state = { λ m. m.days };
 
-    ghost lawful = { λ x. days_of x.days x.many x.each };
+    ghost lawful = { λ m. m.lawful };
 
-    ghost laws = { λ x. dated_map_laws };
+    ghost laws = { λ _. dated_map_laws };
 
     fn run(&mut self, operation: Operation) -> Answer {
         match Request::of(&operation) {
-            Request::Put(day, value) => match self.replace(day, Some(value)) {
+            Some(Request::Put(day, value)) => match self.replace(day, Some(value)) {
                 None => Answer::NEW,
                 Some(before) => Answer::old(before),
             },
-            Request::Drop(day) => match self.replace(day, None) {
+            Some(Request::Drop(day)) => match self.replace(day, None) {
                 None => Answer::ABSENT,
                 Some(before) => Answer::old(before),
             },
-            Request::Find(day) => match self.latest(day) {
+            Some(Request::Find(day)) => match self.latest(day) {
                 None => Answer::NOTHING,
                 Some((day, value)) => Answer::found(day, value),
             },
-            Request::Bad => Answer::BAD,
+            None => Answer::BAD,
         }
     }
 
+    // By the trace, as the set does. One for both would take the step back as a closure, with the map's premise on it: no plainer.
     fn withdraw(&mut self, record: &Record) -> bool {
         let Some(trace) = trace_of(record) else {
             return false;
@@ -106,12 +103,6 @@ impl Object for DatedMap {
     }
 
     fn test(&self, earlier: &Record, later: &Record) -> bool {
-        let (Some(earlier), Some(later)) = (trace_of(earlier), trace_of(later)) else {
-            return true;
-        };
-        match earlier.change {
-            Some(change) => !later.saw.shows(change),
-            None => true,
-        }
+        traces::cleared(trace_of(earlier), trace_of(later))
     }
 }

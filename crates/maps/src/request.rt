@@ -1,5 +1,5 @@
 // What an operation asks of the map.
-ghost use Rattle.std.specs.Prelude.{◌≡◌};
+ghost use Rattle.std.specs.Prelude.{◌≡◌, IfSome};
 ghost use Rattle.maps.specs.Days.{in_range};
 ghost use Rattle.maps.specs.Requests.{Sane, meant};
 
@@ -13,38 +13,28 @@ pub enum Request {
     Put(u32, i64),
     Drop(u32),
     Find(u32),
-    Bad,
 }
 
 impl Request {
-    pub fn of(operation: &Operation) -> Request
+    // None of an operation that is bad for the map. No `TryFrom`: that has one clause, and its error would carry nothing.
+    pub fn of(operation: &Operation) -> Option<Request>
         ensures value { result ≡ meant operation.now }
-        ensures sane { Sane result }
+        ensures sane { IfSome result Sane }
     {
-        let Operation {
-            code,
-            unit,
-            key,
-            amount,
-        } = *operation;
-        let Some(row) = codes::rule_of(code) else {
-            return Request::Bad;
-        };
-        if unit != 0 || row.family != Family::Map || key > row.last_key {
-            return Request::Bad;
-        }
-        match code {
-            codes::PUT if in_range(amount) => Request::Put(key, amount),
-            codes::DROP => Request::Drop(key),
-            codes::FIND => Request::Find(key),
-            _ => Request::Bad,
+        let row = codes::own_rule(Family::Map, operation)?;
+        let day = operation.key;
+        match row.code {
+            codes::PUT if in_range(operation.amount) => Some(Request::Put(day, operation.amount)),
+            codes::DROP => Some(Request::Drop(day)),
+            codes::FIND => Some(Request::Find(day)),
+            _ => None,
         }
     }
 }
 
-// Whether a day can hold this.
+// Whether a day can hold this. The bank's test has other bounds: what the two share is `contains`.
 pub fn in_range(value: i64) -> bool
     ensures { result ≡ in_range value }
 {
-    value >= -LARGEST && value <= LARGEST
+    (-LARGEST..=LARGEST).contains(&value)
 }

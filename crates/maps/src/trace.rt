@@ -1,80 +1,71 @@
 // What a record tells of the map that it ran on.
 ghost use Rattle.std.specs.Prelude.{◌≡◌};
-ghost use Rattle.maps.specs.Days.{same_content};
-ghost use Rattle.maps.specs.Traces.{is_found, is_old, looked, shows, trace, wrote};
+ghost use Rattle.objects.specs.Traces.{looked};
+ghost use Rattle.maps.specs.Traces.{is_found, is_old, shows, trace, window, wrote};
 
 use crate::request::{Request, in_range};
 use objects::records::{Answer, Record};
-use objects::traces::{Change, Trace};
+use objects::traces::{Change, Sight, Trace};
 
+// The first and the last of some days, and what the first one held; the others were empty.
 #[derive(Clone, Copy, Debug)]
-pub enum Sight {
-    Nothing,
-    // The first and the last of some days, and what the first one held; the others were empty.
-    Window(u32, u32, Option<i64>),
+pub struct Window {
+    pub first: u32,
+    pub last: u32,
+    pub content: Option<i64>,
 }
 
-impl Sight {
-    // Whether a record that saw this saw the change: it would have been answered otherwise had the change never been made.
-    pub fn shows(self, change: Change<Option<i64>>) -> bool
+impl Sight<Option<i64>> for Window {
+    ghost shown = { shows };
+
+    fn shows(self, change: Change<Option<i64>>) -> bool
         ensures { result ≡ shows self change }
     {
-        let Sight::Window(first, last, content) = self else {
-            return false;
+        let seen = if change.place == self.first {
+            self.content
+        } else {
+            None
         };
-        if change.place < first || change.place > last {
-            return false;
-        }
-        let seen = if change.place == first { content } else { None };
-        same_content(seen, change.after)
-    }
-}
-
-// Whether two days hold the same.
-pub fn same_content(a: Option<i64>, b: Option<i64>) -> bool
-    ensures { result ≡ same_content a b }
-{
-    match (a, b) {
-        (None, None) => true,
-        (Some(a), Some(b)) => a == b,
-        _ => false,
+        (self.first..=self.last).contains(&change.place) && seen == change.after
     }
 }
 
 // The trace of a record; none of one that can't have run.
-pub fn trace_of(record: &Record) -> Option<Trace<Sight, Option<i64>>>
+pub fn trace_of(record: &Record) -> Option<Trace<Window, Option<i64>>>
     ensures { result ≡ trace «record».now }
 {
     let answer = record.answer;
     match Request::of(&record.operation) {
-        Request::Put(day, value) if answer == Answer::NEW => Some(wrote(day, None, Some(value))),
-        Request::Put(day, value) if is_old(answer) => {
+        Some(Request::Put(day, value)) if answer == Answer::NEW => {
+            Some(wrote(day, None, Some(value)))
+        }
+        Some(Request::Put(day, value)) if is_old(answer) => {
             Some(wrote(day, Some(answer.value), Some(value)))
         }
-        Request::Drop(day) if answer == Answer::ABSENT => Some(wrote(day, None, None)),
-        Request::Drop(day) if is_old(answer) => Some(wrote(day, Some(answer.value), None)),
-        Request::Find(day) if answer == Answer::NOTHING => {
-            Some(looked(Sight::Window(0, day, None)))
+        Some(Request::Drop(day)) if answer == Answer::ABSENT => Some(wrote(day, None, None)),
+        Some(Request::Drop(day)) if is_old(answer) => Some(wrote(day, Some(answer.value), None)),
+        Some(Request::Find(day)) if answer == Answer::NOTHING => Some(looked_at(0, day, None)),
+        Some(Request::Find(day)) if is_found(day, answer) => {
+            Some(looked_at(answer.place, day, Some(answer.value)))
         }
-        Request::Find(day) if is_found(day, answer) => {
-            Some(looked(Sight::Window(answer.place, day, Some(answer.value))))
-        }
-        Request::Bad if answer == Answer::BAD => Some(looked(Sight::Nothing)),
+        None if answer == Answer::BAD => Some(Trace::looked(None)),
         _ => None,
     }
 }
 
-fn looked(sight: Sight) -> Trace<Sight, Option<i64>>
-    ensures { result ≡ looked sight }
+// Of a record that looked at the days from the first to the last, and changed nothing.
+fn looked_at(first: u32, last: u32, content: Option<i64>) -> Trace<Window, Option<i64>>
+    ensures { result ≡ looked (Some (window first last content)) }
 {
-    Trace {
-        saw: sight,
-        change: None,
-    }
+    Trace::looked(Some(Window {
+        first,
+        last,
+        content,
+    }))
 }
 
 // A write that leaves what the day held has changed nothing.
-fn wrote(day: u32, before: Option<i64>, after: Option<i64>) -> Trace<Sight, Option<i64>>
+fn wrote(day: u32, before: Option<i64>, after: Option<i64>) -> Trace<Window, Option<i64>>
     ensures { result ≡ wrote day before after }
 {
     let change = Change {
@@ -83,12 +74,8 @@ fn wrote(day: u32, before: Option<i64>, after: Option<i64>) -> Trace<Sight, Opti
         after,
     };
     Trace {
-        saw: Sight::Window(day, day, before),
-        change: if same_content(before, after) {
-            None
-        } else {
-            Some(change)
-        },
+        change: (before != after).then_some(change),
+        ..looked_at(day, day, before)
     }
 }
 

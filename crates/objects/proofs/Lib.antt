@@ -3,3 +3,4 @@ pub mod Carry
 pub mod Retractions
 pub mod Provided
 pub mod Placed
+pub mod Judged

@@ -7,8 +7,8 @@ use Rattle.objects.specs.declared.records.Record.{Record}
 use Rattle.objects.specs.declared.traces.Change.{Change}
 use Rattle.objects.specs.declared.traces.Trace.{Trace}
 use Rattle.objects.specs.Kinds.{Commutes, Kind, Laws, PlainWithdrawals, Runs}
-use Rattle.objects.specs.Traces.{cleared, restored, reverted, unseen}
-use Rattle.objects.proofs.Provided.{provided_is}
+use Rattle.objects.specs.Traces.{cleared, restored, reverted, showing, unseen}
+use Rattle.std.proofs.lemmas.Option.{cond_some}
 
 -- the places after a change, if there was one
 abbrev pub changed : {X : Type 0} → List X → Option (Change X) → List X
@@ -20,8 +20,8 @@ abbrev pub Elsewhere : {X : Type 0} → ℕ → Option (Change X) → Type 0
 Elsewhere n None = Unit {0}
 Elsewhere n (Some c) = n ≡ c.place → ⊥
 
--- what a kind over the places of X has to show: `Saw v s`, that v is seen in s
-module _ {V X : Type 0} (equal : X → X → Bool) (blank : X) (shows : V → Change X → Bool) (trace : Record → Option (Trace V X)) (Saw : V → List X → Type 0) (k : Kind (List X)) where
+-- what a kind over the places of X has to show: `Saw v s`, that what v says was seen is so in s
+module _ {V X : Type 0} (equal : X → X → Bool) (blank : X) (shows : V → Change X → Bool) (trace : Record → Option (Trace V X)) (Saw : Option V → List X → Type 0) (k : Kind (List X)) where
   -- the change of a record with the trace e
   pub record Proper (e : Trace V X) (c : Change X) : Type 0 where
     pub other : c.before ≡ c.after → ⊥
@@ -47,9 +47,9 @@ module _ {V X : Type 0} (equal : X → X → Bool) (blank : X) (shows : V → Ch
     pub meets : (r : Record) (e : Trace V X) → trace r ≡ Some e → (s : List X) × (k.Lawful s × Saw e.saw s)
     pub proper : (r : Record) (e : Trace V X) (c : Change X) → trace r ≡ Some e → e.change ≡ Some c → Proper e c
     -- a sight that shows no change is the same without it; one that shows it isn't
-    pub apart : (p q : Record) (e f : Trace V X) (c : Change X) → trace p ≡ Some e → trace q ≡ Some f → e.change ≡ Some c → shows f.saw c ≡ false →
+    pub apart : (p q : Record) (e f : Trace V X) (c : Change X) → trace p ≡ Some e → trace q ≡ Some f → e.change ≡ Some c → showing shows f.saw c ≡ false →
         (t : List X) → k.Lawful t → get_or t c.place blank ≡ c.after → Saw f.saw t → Saw f.saw (set t c.place c.before) × Elsewhere c.place f.change
-    pub shown : (p q : Record) (e f : Trace V X) (c : Change X) → trace p ≡ Some e → trace q ≡ Some f → e.change ≡ Some c → shows f.saw c ≡ true → Shown f c
+    pub shown : (p q : Record) (e f : Trace V X) (c : Change X) → trace p ≡ Some e → trace q ≡ Some f → e.change ≡ Some c → showing shows f.saw c ≡ true → Shown f c
     -- withdrawal and test are those of the traces
     pub withdrawn : (s : List X) (r : Record) → k.withdrawn s r ≡ reverted equal blank s (trace r)
     pub tested : (p q : Record) → k.tested p q ≡ cleared shows (trace p) (trace q)
@@ -95,7 +95,7 @@ module _ {V X : Type 0} (equal : X → X → Bool) (blank : X) (shows : V → Ch
 
     stands : (s v : List X) (o : Option (Change X)) → restored equal blank s o ≡ Some v → Stands s v o
     stands s v None e = cc
-    stands s v (Some c) e = let told = provided_is _ (set s c.place c.before) v e in (P.same_equal _ _ told.0, told.1)
+    stands s v (Some c) e = let told = cond_some _ (set s c.place c.before) v e in (P.same_equal _ _ told.0, told.1)
 
     withdrew : (s v : List X) (r : Record) → k.withdrawn s r ≡ Some v → (e : Trace V X) × ((trace r ≡ Some e) × Stands s v e.change)
     withdrew s v r is = go (trace r) refl
@@ -124,7 +124,7 @@ module _ {V X : Type 0} (equal : X → X → Bool) (blank : X) (shows : V → Ch
 
     -- p's withdrawal takes a change back that q did not see
     square : (p q : Record) (e f : Trace V X) (c : Change X) (t : List X) → trace p ≡ Some e → trace q ≡ Some f → e.change ≡ Some c → k.Lawful t →
-        get_or t c.place blank ≡ c.after → Saw f.saw t → shows f.saw c ≡ false → Square p q (changed t f.change) (set t c.place c.before)
+        get_or t c.place blank ≡ c.after → Saw f.saw t → showing shows f.saw c ≡ false → Square p q (changed t f.change) (set t c.place c.before)
     square p q e f c t has_p has_q is lawful held saw hidden =
         let apart = P.apart p q e f c has_p has_q is hidden t lawful held saw in
         let moved = changes_apart t c f.change apart.1 in
@@ -162,9 +162,9 @@ module _ {V X : Type 0} (equal : X → X → Bool) (blank : X) (shows : V → Ch
       where
         seen : (e f : Trace V X) → trace p ≡ Some e → trace q ≡ Some f → (o : Option (Change X)) → e.change ≡ o → unseen shows o f.saw ≡ true
         seen e f has_p has_q None is = refl
-        seen e f has_p has_q (Some c) is = ⊎_elim (λ there. absurd (refuted there)) (not_from_false _) (cases_Bool (shows f.saw c))
+        seen e f has_p has_q (Some c) is = ⊎_elim (λ there. absurd (refuted there)) (not_from_false _) (cases_Bool (showing shows f.saw c))
           where
-            refuted : shows f.saw c ≡ true → ⊥
+            refuted : showing shows f.saw c ≡ true → ⊥
             refuted there =
                 let case = P.shown p q e f c has_p has_q is there in
                 let t = case.state in

@@ -7,7 +7,7 @@ use Rattle.objects.specs.Kinds.{Kind, Laws, Runs}
 use Rattle.objects.specs.Leads.{Leads, Passes}
 use Rattle.objects.proofs.Carry.{carry_from_run}
 
-none_left : {S : Type 0} (o : Option S) (s : S) → is_some o ≡ false → unwrap_or o s ≡ s
+pub none_left : {S : Type 0} (o : Option S) (s : S) → is_some o ≡ false → unwrap_or o s ≡ s
 none_left None s e = refl
 none_left (Some t) s e = absurd (both_ways true e refl)
 
@@ -24,9 +24,6 @@ module _ {S : Type 0} (k : Kind S) (p : Record) (rs : List Record) where
     runs_on t e s₀ s₁ lawful runs leads =
         let on = carry_from_run laws lawful runs leads passes in
         subst (Leads k s₀ rs) (sym (e ∙ ap (λ o. unwrap_or o s) on.applies)) on.leads
-
-    pub unmoved : is_some (k.withdrawn s p) ≡ false → unwrap_or (k.withdrawn s p) s ≡ s
-    unmoved = none_left (k.withdrawn s p) s
 
     pub did_not_run : is_some (k.withdrawn s p) ≡ false → (s₀ s₁ : S) → k.Lawful s₀ → Runs k s₀ p s₁ → Leads k s₁ rs s → ⊥
     did_not_run e s₀ s₁ lawful runs leads =

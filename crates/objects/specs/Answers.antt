@@ -1,5 +1,6 @@
 -- The tags of answers, and the answers that the rules name. A field that no rule mentions is 0.
 use Rattle.std.specs.Prelude.{ℕ, Bool, ◌&&◌, List, [], ◌∷◌, ℤ, pos, ◌==◌, int_le}
+use Rattle.std.specs.Ordering.{int_eq}
 use Rattle.objects.specs.declared.records.Operation.{Operation}
 use Rattle.objects.specs.declared.records.Answer.{Answer}
 use Rattle.objects.specs.declared.records.Record.{Record}
@@ -66,7 +67,11 @@ found day v = record { tag = 12; place = day; value = v }
 
 -- two answers are the same
 abbrev pub same : Answer → Answer → Bool
-same a b = a.tag == b.tag && a.place == b.place && int_le a.value b.value && int_le b.value a.value
+same a b = a.tag == b.tag && a.place == b.place && int_eq a.value b.value
+
+-- the answer value, with a value from 0 to the most that there can be
+abbrev pub is_value_to : ℤ → Answer → Bool
+is_value_to most a = same a (holding a.value) && (int_le (pos 0) a.value && int_le a.value most)
 
 -- an operation with its answer
 abbrev pub answered : Operation → Answer → Record

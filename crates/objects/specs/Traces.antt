@@ -1,6 +1,6 @@
 -- Kinds whose states are lists of places: how a record is withdrawn, and tested against a later one, by the traces of the two.
 -- A record that can't have run has no trace. What two places hold is compared by `equal`; `blank` stands past the last place.
-use Rattle.std.specs.Prelude.{Bool, true, cond, not, List, Some, None, Option, slice_index_or, slice_set}
+use Rattle.std.specs.Prelude.{Bool, true, false, cond, not, List, Some, None, Option, slice_index_or, slice_set}
 use Rattle.objects.specs.declared.traces.Change.{Change}
 use Rattle.objects.specs.declared.traces.Trace.{Trace}
 use Rattle.objects.specs.Kinds.{provided}
@@ -18,10 +18,18 @@ abbrev pub reverted : {V X : Type 0} → (X → X → Bool) → X → List X →
 reverted equal blank s None = None
 reverted equal blank s (Some t) = restored equal blank s t.change
 
--- `shows v c`: what was seen, v, shows the change c
-abbrev pub unseen : {V X : Type 0} → (V → Change X → Bool) → Option (Change X) → V → Bool
+-- the trace of a record that changed nothing
+abbrev pub looked : {V X : Type 0} → Option V → Trace V X
+looked v = record { saw = v; change = None }
+
+-- `shows v c`: what was seen, v, shows the change c; where nothing was seen, that shows no change
+abbrev pub showing : {V X : Type 0} → (V → Change X → Bool) → Option V → Change X → Bool
+showing shows None c = false
+showing shows (Some v) c = shows v c
+
+abbrev pub unseen : {V X : Type 0} → (V → Change X → Bool) → Option (Change X) → Option V → Bool
 unseen shows None v = true
-unseen shows (Some c) v = not (shows v c)
+unseen shows (Some c) v = not (showing shows v c)
 
 -- the test of an earlier record against a later one, by their traces: yes, unless the later one saw what the earlier one's change had left
 abbrev pub cleared : {V X : Type 0} → (V → Change X → Bool) → Option (Trace V X) → Option (Trace V X) → Bool

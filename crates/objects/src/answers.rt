@@ -1,9 +1,10 @@
 // The tags of answers, and the answers that the rules name.
 ghost use Rattle.std.specs.Prelude.{◌≡◌};
-ghost use Rattle.objects.specs.Answers.{found, holding, old, plain_answers, tags};
+ghost use Rattle.objects.specs.Answers.{found, holding, is_value_to, old, plain_answers, tags};
 
 use crate::records::Answer;
 
+// Numbers and no enum: every number is a legal tag, and a record keeps it as it came.
 pub const BAD: u8 = 0;
 
 pub const DONE: u8 = 1;
@@ -126,7 +127,7 @@ impl Answer {
         ..Answer::BAD
     };
 
-    // What a counter holds, or how many members a set has.
+    // What a counter holds, or how many members a set has. `value` and `old` differ in the tag alone: each is one literal, under the rule's own name.
     pub fn value(held: i64) -> Answer
         ensures { result ≡ holding held }
     {
@@ -135,6 +136,13 @@ impl Answer {
             place: 0,
             value: held,
         }
+    }
+
+    // Whether this is the answer value, with a value from 0 to this.
+    pub fn is_value_to(self, most: i64) -> bool
+        ensures { result ≡ is_value_to most self }
+    {
+        self == Answer::value(self.value) && (0..=most).contains(&self.value)
     }
 
     // The value that a day held before.

@@ -1,7 +1,10 @@
 // The codes of operations, and what the rules say of each: one table, which the code of the kinds reads.
 ghost use Rattle.std.specs.Prelude.{◌≡◌};
-ghost use Rattle.objects.specs.Codes.{code_rule};
+ghost use Rattle.objects.specs.Codes.{code_rule, own_rule};
 
+use crate::records::Operation;
+
+// Numbers and no enum: every number is a legal code, and each kind decodes its own into an enum.
 pub const ADD: u8 = 1;
 
 pub const TAKE: u8 = 2;
@@ -46,7 +49,7 @@ const LAST_DAY: u32 = 511;
 
 const EVERY_KEY: u32 = u32::MAX;
 
-// Each code with its family, the last key that it takes, and whether it changes the state.
+// Each code with its family, the last key that it takes, and whether it changes the state. Ten structs written out would not read as a table.
 const CODES: [(u8, Family, u32, bool); 10] = [
     (ADD, Family::Counter, LAST_COUNTER, true),
     (TAKE, Family::Counter, LAST_COUNTER, true),
@@ -64,14 +67,23 @@ const CODES: [(u8, Family, u32, bool); 10] = [
 pub fn rule_of(code: u8) -> Option<CodeRule>
     ensures { result ≡ code_rule code }
 {
-    if code < ADD || code > FIND {
+    if !(ADD..=FIND).contains(&code) {
         return None;
     }
-    let (code, family, last_key, changes) = CODES[code as usize - 1];
+    let (code, family, last_key, changes) = CODES[usize::from(code) - 1];
     Some(CodeRule {
         code,
         family,
         last_key,
         changes,
     })
+}
+
+// The row of an operation that a bottom object of this family knows: the unit is 0, the code is one of the family's, and the key is one that it takes. None of another.
+pub fn own_rule(family: Family, operation: &Operation) -> Option<CodeRule>
+    ensures { result ≡ own_rule family operation.now }
+{
+    let row = rule_of(operation.code)?;
+    let own = operation.unit == 0 && row.family == family && operation.key <= row.last_key;
+    own.then_some(row)
 }

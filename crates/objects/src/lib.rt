@@ -4,5 +4,6 @@ pub mod answers;
 pub mod codes;
 pub mod object;
 pub mod records;
+pub mod rerun;
 pub mod retract;
 pub mod traces;

@@ -17,7 +17,7 @@ pub trait Object {
 
     ghost state: { Self → State };
 
-    // Does an operation and answers.
+    // Does an operation and answers. `keeps` stands here and wherever an object is moved: it is of before and after, which no type can hold.
     fn run(&mut self, operation: Operation) -> Answer
         ensures answers { result ≡ ((kind (fixed self.old)).ran (state self.old) operation).0 }
         ensures moves { state self.new ≡ ((kind (fixed self.old)).ran (state self.old) operation).1 }

@@ -10,7 +10,7 @@ pub const KEYS: u32 = 256;
 
 const WORDS: usize = 4;
 
-// Key k is bit k % 64 of word k / 64.
+// Key k is bit k % 64 of word k / 64: no heap, since the memory of a controller is a stated budget.
 #[derive(Drop)]
 pub struct BitSet {
     pub(crate) words: [u64; WORDS],

@@ -1,5 +1,5 @@
 // What an operation asks of the set.
-ghost use Rattle.std.specs.Prelude.{◌≡◌};
+ghost use Rattle.std.specs.Prelude.{◌≡◌, IfSome};
 ghost use Rattle.sets.specs.Requests.{Sane, meant};
 
 use objects::codes;
@@ -12,32 +12,21 @@ pub enum Request {
     Remove(u32),
     Has(u32),
     Size,
-    Bad,
 }
 
 impl Request {
-    pub fn of(operation: &Operation) -> Request
+    // None of an operation that is bad for the set. No `TryFrom`: that has one clause, and its error would carry nothing.
+    pub fn of(operation: &Operation) -> Option<Request>
         ensures value { result ≡ meant operation.now }
-        ensures sane { Sane result }
+        ensures sane { IfSome result Sane }
     {
-        let Operation {
-            code,
-            unit,
-            key,
-            ..
-        } = *operation;
-        let Some(row) = codes::rule_of(code) else {
-            return Request::Bad;
-        };
-        if unit != 0 || row.family != Family::Set || key > row.last_key {
-            return Request::Bad;
-        }
-        match code {
-            codes::INSERT => Request::Insert(key),
-            codes::REMOVE => Request::Remove(key),
-            codes::HAS => Request::Has(key),
-            codes::SIZE => Request::Size,
-            _ => Request::Bad,
+        let key = operation.key;
+        match codes::own_rule(Family::Set, operation)?.code {
+            codes::INSERT => Some(Request::Insert(key)),
+            codes::REMOVE => Some(Request::Remove(key)),
+            codes::HAS => Some(Request::Has(key)),
+            codes::SIZE => Some(Request::Size),
+            _ => None,
         }
     }
 }

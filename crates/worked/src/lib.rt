@@ -5,7 +5,7 @@ ghost use Rattle.std.specs.Prelude.{◌≡◌, length, All};
 ghost use Rattle.worked.specs.Examples.{Holds};
 ghost use Rattle.worked.specs.List.{examples};
 
-// How many worked examples there are. Each one holds.
+// How many worked examples there are. Each one holds. One for this list and that of `worked_pile` would take list and theorem as parameters, which the lemmas `judged` and `all_by_test` of `objects` do.
 pub fn examples_hold() -> usize
     ensures count { result ≡ length examples }
     ensures hold { All Holds examples }

@@ -1,13 +1,10 @@
 -- What is known of counts within their range.
-use Rattle.std.specs.Prelude.{◌≡◌, ℕ, ◌<◌, ◌≤◌, ◌⊎◌, List, length, get_or, set, replicate, ℤ, pos, ◌+ℤ◌, ◌≤ℤ◌, ◌≢◌, slice_index_or, slice_set, refl}
+use Rattle.std.specs.Prelude.{◌≡◌, ℕ, ◌<◌, ◌≤◌, ◌⊎◌, List, length, get_or, set, replicate, ℤ, pos, ◌+ℤ◌, ◌≤ℤ◌, ◌≢◌, slice_index_or, slice_set}
 use Rattle.std.proofs.Common.{sym, ap, subst, ◌∙◌, inl, inr, ⊎_elim, arith}
-use Rattle.std.proofs.lemmas.List.{get_or_past, get_or-replicate, get_or-set_same, get_or-set_other, length-set, set_comm, set-get_or, set-set}
+use Rattle.std.proofs.lemmas.List.{get_or_past, get_or-replicate, get_or-set_same, get_or-set_other, length-replicate, length-set, set_comm, set-get_or, set-set}
 use Rattle.std.proofs.lemmas.Bool.{cases_eq, cases_lt}
 use Rattle.std.proofs.lemmas.Int.{ints}
 use Rattle.counters.specs.Counts.{Counts, Each, Within, counters, held, moved, zeros}
-
-pub counts_of : (c : ℤ) (s : List ℤ) → length s ≡ counters → Each c s → Counts c s
-counts_of c s many each = record { many = many; each = each }
 
 -- zero is in every range
 pub zero_within : (c : ℤ) → pos 0 ≤ℤ c → Within c (pos 0)
@@ -16,17 +13,17 @@ zero_within c least = (omega (arith, ints), least)
 pub all_each : (c x : ℤ) → Within c x → Each c (replicate counters x)
 all_each c x within k h = subst (Within c) (sym (get_or-replicate counters k x (pos 0) h)) within
 
-pub zeros_each : (c : ℤ) → pos 0 ≤ℤ c → Each c zeros
-zeros_each c least = all_each c (pos 0) (zero_within c least)
+pub zeros_counts : (c : ℤ) → pos 0 ≤ℤ c → Counts c zeros
+zeros_counts c least = record { many = length-replicate counters (pos 0); each = all_each c (pos 0) (zero_within c least) }
 
-pub each_set : (c : ℤ) (s : List ℤ) (k : ℕ) (v : ℤ) → length s ≡ counters → Each c s → Within c v → Each c (slice_set s k v)
-each_set c s k v many each within j h = ⊎_elim here there (cases_eq j k)
+pub counts_set : (c : ℤ) (s : List ℤ) (k : ℕ) (v : ℤ) → Counts c s → Within c v → Counts c (slice_set s k v)
+counts_set c s k v counts within = record { many = length-set s k v ∙ counts.many; each = λ j h. ⊎_elim (here j h) (there j h) (cases_eq j k) }
   where
-    here : j ≡ k → Within c (slice_index_or (slice_set s k v) j (pos 0))
-    here e = let k_in : k < length s = omega (arith, many) in subst (Within c) (sym (ap (λ i. get_or (slice_set s k v) i (pos 0)) e ∙ get_or-set_same s k v (pos 0) k_in)) within
+    here : (j : ℕ) → j < counters → j ≡ k → Within c (slice_index_or (slice_set s k v) j (pos 0))
+    here j h e = let k_in : k < length s = omega (arith, counts.many) in subst (Within c) (sym (ap (λ i. get_or (slice_set s k v) i (pos 0)) e ∙ get_or-set_same s k v (pos 0) k_in)) within
 
-    there : (j ≢ k) → Within c (slice_index_or (slice_set s k v) j (pos 0))
-    there ne = subst (Within c) (sym (get_or-set_other s k j v (pos 0) ne)) (each j h)
+    there : (j : ℕ) → j < counters → (j ≢ k) → Within c (slice_index_or (slice_set s k v) j (pos 0))
+    there j h ne = subst (Within c) (sym (get_or-set_other s k j v (pos 0) ne)) (counts.each j h)
 
 pub held_within : (c : ℤ) (s : List ℤ) (k : ℕ) → pos 0 ≤ℤ c → Counts c s → Within c (held s k)
 held_within c s k least counts = ⊎_elim (λ h. counts.each k h) beyond (cases_lt k counters)
@@ -67,8 +64,7 @@ moves_apart s j k a b ne =
     ∙ sym (ap (λ x. set (moved s k b) j (x +ℤ a)) (held_other s k j b (λ e. ne (sym e))))
 
 pub counts_moved : (c : ℤ) (s : List ℤ) (k : ℕ) (by : ℤ) → Counts c s → Within c (held s k +ℤ by) → Counts c (moved s k by)
-counts_moved c s k by counts within =
-    record { many = length-set s k (held s k +ℤ by) ∙ counts.many; each = each_set c s k (held s k +ℤ by) counts.many counts.each within }
+counts_moved c s k by counts within = counts_set c s k (held s k +ℤ by) counts within
 
 -- counts that are x at the counter k and 0 elsewhere
 abbrev pub only : ℕ → ℤ → List ℤ
@@ -78,4 +74,4 @@ pub held_only : (k : ℕ) (x : ℤ) → k < counters → held (only k x) k ≡ x
 held_only k x there = get_or-set_same zeros k x (pos 0) there
 
 pub counts_only : (c : ℤ) (k : ℕ) (x : ℤ) → pos 0 ≤ℤ c → Within c x → Counts c (only k x)
-counts_only c k x least within = record { many = length-set zeros k x; each = each_set c zeros k x refl (zeros_each c least) within }
+counts_only c k x least within = counts_set c zeros k x (zeros_counts c least) within

@@ -1,11 +1,11 @@
 -- What the two spans of a record have to do with each other and with the range of the counts.
-use Rattle.std.specs.Prelude.{◌≡◌, ℕ, ◌<◌, Bool, true, false, cond, ◌⊎◌, ℤ, pos, ◌+ℤ◌, ◌-ℤ◌, neg_ℤ, ◌≤ℤ◌, refl}
+use Rattle.std.specs.Prelude.{◌≡◌, ℕ, ◌<◌, Bool, true, false, cond, ◌⊎◌, ℤ, pos, ◌+ℤ◌, ◌-ℤ◌, neg_ℤ, ◌≤ℤ◌, refl, Option, Some, None}
 use Rattle.std.proofs.Common.{inl, inr, arith}
 use Rattle.std.proofs.lemmas.Int.{ints}
 use Rattle.objects.specs.declared.records.Answer.{Answer}
 use Rattle.objects.specs.Answers.{bad, done, full, same, short}
 use Rattle.counters.specs.declared.movement.Movement.{Movement}
-use Rattle.counters.specs.declared.movement.Movement.TheVariants.{Add, Take, Read, Bad}
+use Rattle.counters.specs.declared.movement.Movement.TheVariants.{Add, Take, Read}
 use Rattle.counters.specs.declared.span.Span.{Span}
 use Rattle.counters.specs.Bank.{is_reading}
 use Rattle.counters.specs.Bounds.{Amount, Sane}
@@ -81,20 +81,20 @@ fit_never c k = record {
 }
 
 -- one choice made twice
-choose : {A : Type 0} (P : A → A → Type 0) (b : Bool) (x y z w : A) → (b ≡ true → P x z) → (b ≡ false → P y w) → P (cond b x y) (cond b z w)
+pub choose : {A B : Type 0} (P : A → B → Type 0) (b : Bool) (x y : A) (z w : B) → (b ≡ true → P x z) → (b ≡ false → P y w) → P (cond b x y) (cond b z w)
 choose P true x y z w left right = left refl
 choose P false x y z w left right = right refl
 
-pub fit : (c : ℤ) (k : ℕ) (m : Movement) (a : Answer) → pos 0 ≤ℤ c → Sane c m → Names k m → Fit c k (run_span c m a) (withdrawal_span c m a)
-fit c k (Add key n) a least sane names =
+pub fit : (c : ℤ) (k : ℕ) (m : Option Movement) (a : Answer) → pos 0 ≤ℤ c → Sane c m → Names k m → Fit c k (run_span c m a) (withdrawal_span c m a)
+fit c k (Some (Add key n)) a least sane names =
     choose (Fit c k) (same a done) _ _ _ _ (λ _. fit_added c k n (omega arith) sane.1)
     (λ _. choose (Fit c k) (same a full) _ _ _ _ (λ _. fit_still c k _ _ (omega (arith, ints)) (omega (arith, ints)) (omega (arith, ints)) (inl (omega arith))) (λ _. fit_never c k))
-fit c k (Take key n) a least sane names =
+fit c k (Some (Take key n)) a least sane names =
     choose (Fit c k) (same a done) _ _ _ _ (λ _. fit_taken c k n (omega arith) sane.1)
     (λ _. choose (Fit c k) (same a short) _ _ _ _ (λ _. fit_still c k _ _ (omega (arith, ints)) (omega (arith, ints)) (omega (arith, ints)) (inl (omega arith))) (λ _. fit_never c k))
-fit c k (Read key) a least sane names =
+fit c k (Some (Read key)) a least sane names =
     choose (Fit c k) (is_reading c a) _ _ _ _
     (λ e. fit_still c k _ _ (grind (arith, ints)) (omega (arith, ints)) (grind (arith, ints)) (inl (omega arith)))
     (λ _. fit_never c k)
-fit c k Bad a least sane names =
+fit c k None a least sane names =
     choose (Fit c k) (same a bad) _ _ _ _ (λ _. fit_still c k _ _ (omega (arith, ints)) least (omega (arith, ints)) (inr (λ x h. h))) (λ _. fit_never c k)

@@ -7,7 +7,7 @@ use Rattle.objects.specs.declared.records.Answer.{Answer}
 use Rattle.objects.specs.declared.records.Record.{Record}
 use Rattle.objects.specs.Answers.{answered, same}
 use Rattle.objects.specs.Kinds.{Kind, Laws, PlainWithdrawals, Runs}
-use Rattle.objects.proofs.Provided.{provided_is}
+use Rattle.std.proofs.lemmas.Option.{cond_some}
 use Rattle.objects.proofs.Same.{same_refl, same_true}
 use Rattle.layers.specs.Filters.{Passage, filtered, passed_record, ran_past, tested_past, withdrawn_past}
 
@@ -39,7 +39,7 @@ module _ {S : Type 0} (k : Kind S) (passes : Operation → Passage) where
     sound_past (Ok o) (Err own) a b passed t u v lawful withdrew runs =
         (v, (ap (λ s. k.withdrawn s (answered o a)) (sym runs.1) ∙ withdrew, (runs.0, refl)))
     sound_past (Err own) q a b passed t u v lawful withdrew runs =
-        let told = provided_is (same a own) t v withdrew in
+        let told = cond_some (same a own) t v withdrew in
         (u, (cond-true (same a own) (Some u) None told.0, subst (λ s. RunsPast s q b u) told.1 runs))
 
     exact_past : (p q : Passage) (a b : Answer) → ((t u v : S) → k.Lawful t → withdrawn_past k t p a ≡ Some v → RunsPast t q b u → Square p a q b u v) → tested_past k (passed_record p a) (passed_record q b) ≡ true
@@ -54,7 +54,7 @@ module _ {S : Type 0} (k : Kind S) (passes : Operation → Passage) where
 
     withdraw_lawful_past : (s t : S) (p : Passage) (a : Answer) → k.Lawful s → withdrawn_past k s p a ≡ Some t → k.Lawful t
     withdraw_lawful_past s t (Ok o) a lawful withdrew = laws.withdraw_lawful s t (answered o a) lawful withdrew
-    withdraw_lawful_past s t (Err own) a lawful withdrew = subst k.Lawful (provided_is (same a own) s t withdrew).1 lawful
+    withdraw_lawful_past s t (Err own) a lawful withdrew = subst k.Lawful (cond_some (same a own) s t withdrew).1 lawful
 
     pub filtered_laws : Laws (filtered k passes)
     filtered_laws = record {

@@ -1,8 +1,9 @@
 -- How many members a set has, and a set with as many as wanted.
-use Rattle.std.specs.Prelude.{◌≡◌, ℕ, zero, suc, ◌+◌, ◌-◌, ◌<◌, ◌≤◌, Bool, true, false, cond, not, List, ◌++◌, length, set, replicate, count_by, ◌≢◌, refl}
-use Rattle.std.proofs.Common.{ap, subst, ◌∙◌, ⊎_elim, arith}
-use Rattle.std.proofs.lemmas.List.{get_or_append_left, get_or-append_right, get_or-replicate, get_or-set_other, get_or-set_same, length-append, length-replicate, length-set}
-use Rattle.std.proofs.lemmas.List.Sums.{count_by-le-length, sum_by-append, sum_by-cons, sum_by-set}
+use Rattle.std.specs.Prelude.{◌≡◌, ℕ, ◌+◌, ◌-◌, ◌<◌, ◌≤◌, Bool, true, false, cond, not, List, ◌++◌, length, set, replicate, ◌≢◌, refl}
+use Rattle.std.proofs.Common.{ap, subst, ◌∙◌, ⊎_elim, arith, rules}
+use Rattle.std.proofs.lemmas.List.{places, get_or-set_other, get_or-set_same, length-append, length-replicate, length-set}
+use Rattle.std.proofs.lemmas.List.Folds.{sum_by-replicate}
+use Rattle.std.proofs.lemmas.List.Sums.{count_by-le-length, sum_by-append, sum_by-set}
 use Rattle.std.proofs.lemmas.Bool.{cases_lt}
 use Rattle.sets.specs.Members.{Members, keys, member, size}
 
@@ -34,26 +35,18 @@ abbrev pub first : ℕ → List Bool
 first n = replicate n true ++ replicate (keys - n) false
 
 pub first_members : (n : ℕ) → n ≤ keys → Members (first n)
-first_members n h = record { many = length-append (replicate n true) (replicate (keys - n) false) ∙ omega (arith, length-replicate n true, length-replicate (keys - n) false) }
+first_members n h = record { many = simp (length-append, length-replicate) (omega arith) }
 
 first_in : (n k : ℕ) → k < n → member (first n) k ≡ true
-first_in n k h =
-    get_or_append_left (replicate n true) (replicate (keys - n) false) false k (omega (arith, length-replicate n true)) ∙ get_or-replicate n k true false h
+first_in n k h = search (rules, places)
 
 first_out : (n k : ℕ) → n ≤ k → k < keys → member (first n) k ≡ false
-first_out n k h there =
-    get_or-append_right (replicate n true) (replicate (keys - n) false) n k false (length-replicate n true) h ∙ get_or-replicate (keys - n) (k - n) false false (omega arith)
-
-size_replicate : (n : ℕ) (b : Bool) → count_by (λ x. x) (replicate n b) ≡ cond b n 0
-size_replicate zero true = refl
-size_replicate zero false = refl
-size_replicate (suc n) true = sum_by-cons one true (replicate n true) ∙ omega (arith, size_replicate n true)
-size_replicate (suc n) false = sum_by-cons one false (replicate n false) ∙ omega (arith, size_replicate n false)
+first_out n k h there = search (rules, places)
 
 pub size_first : (n : ℕ) → size (first n) ≡ n
 unfolding size
 size_first n =
-    sum_by-append one (replicate n true) (replicate (keys - n) false) ∙ omega (arith, size_replicate n true, size_replicate (keys - n) false)
+    sum_by-append one (replicate n true) (replicate (keys - n) false) ∙ omega (arith, sum_by-replicate one n true, sum_by-replicate one (keys - n) false)
 
 -- a set of n members, of which k is one, or isn't
 pub record Sized (k : ℕ) (b : Bool) (n : ℕ) : Type 0 where
@@ -66,14 +59,14 @@ pub record Sized (k : ℕ) (b : Bool) (n : ℕ) : Type 0 where
 exchanged : (s : List Bool) (j k : ℕ) (b : Bool) → Members s → j < keys → k < keys → (k ≢ j) → member s j ≡ b → member s k ≡ not b → Sized k b (size s)
 exchanged s j k b members hj hk ne is other =
     let t = set s j (not b) in
-    let t_many : length t ≡ keys = length-set s j (not b) ∙ members.many in
+    let many : length t ≡ keys = length-set s j (not b) ∙ members.many in
     let was : member t k ≡ not b = get_or-set_other s j k (not b) false ne ∙ other in
-    let k_in : k < length t = omega (arith, t_many) in
+    let there : k < length t = omega (arith, many) in
     record {
       state = set t k b;
-      members = record { many = length-set t k b ∙ t_many };
-      holds = get_or-set_same t k b false k_in;
-      many = omega (arith, size_set t k b k_in, size_set s j (not b) (omega (arith, members.many)), ap one is, ap one was);
+      members = record { many = length-set t k b ∙ many };
+      holds = get_or-set_same t k b false there;
+      many = grind (arith, size_set t k b there, size_set s j (not b) (omega (arith, members.many)));
     }
 
 pub sized : (k n : ℕ) (b : Bool) → k < keys → n ≤ keys → (b ≡ true → 0 < n) → (b ≡ false → n < keys) → Sized k b n

@@ -1,5 +1,5 @@
 -- The law of the table: its rows are the rule's, one for each code from 1 on. The checker computes it over the whole table.
-use Rattle.std.proofs.Common.{◌≡◌, ℕ, ◌-◌, ◌≤◌, Bool, List, map, get_or, Some, None, sym, refl, ap, ◌∙◌, arith}
+use Rattle.std.proofs.Common.{rules, ◌≡◌, ℕ, ◌-◌, ◌≤◌, Bool, List, map, get_or, Some, None, sym, refl, ap, ◌∙◌, arith}
 use Rattle.std.specs.List.{range_with_len}
 use Rattle.std.proofs.lemmas.List.FromFn.{get_or-map-range_with_len}
 use Rattle.std.proofs.lemmas.Bool.{and_from, cond-true, le-leb}
@@ -26,6 +26,8 @@ coded n least most = sym (cond-true (is_code n) (Some (code_row n)) None (and_fr
 
 pub returns : goal.returns
 returns c =
-    let least = c.if-code-lt-ADD.false in
-    let most = c.if-code-gt-FIND.false in
-    ap (λ row. Some (rule row)) (row_at _ c.args.code _ refl least most) ∙ coded c.args.code least most
+    let n = c.from.result in
+    let is : n ≡ c.args.code = search rules in
+    let least : 1 ≤ n = search rules in
+    let most : n ≤ 10 = search rules in
+    ap (λ row. Some (rule row)) (row_at _ n _ refl least most) ∙ coded n least most ∙ ap code_rule is

@@ -1,5 +1,5 @@
 use Rattle.std.proofs.Common.{true, false, sym, refl, ◌∙◌, below_more}
-use Rattle.objects.proofs.Retractions.{all_pass, did_not_run, runs_on, said, unmoved}
+use Rattle.objects.proofs.Retractions.{all_pass, did_not_run, none_left, runs_on, said}
 use Rattle.objects.proofs.retract.retract.Goals as goal
 
 pub returns-then-not-test : goal.returns-then-not-test
@@ -33,7 +33,7 @@ returns-else-withdraw g c =
     let fails = sym c.if-withdraw.ensures.applies in
     record {
       answer = (passes, fails);
-      moves = c.withdraw.ensures.moves ∙ unmoved kind _ _ (g.met.O.Object.laws object) _ passes fails;
+      moves = c.withdraw.ensures.moves ∙ none_left _ _ fails;
       keeps = c.withdraw.ensures.keeps;
       never = did_not_run kind _ _ (g.met.O.Object.laws object) _ passes fails;
     }

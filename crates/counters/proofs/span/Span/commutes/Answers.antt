@@ -1,5 +1,5 @@
 use Rattle.std.proofs.Common.{◌≡◌, arith, rules}
-use Rattle.std.proofs.lemmas.Int.{ints, clamps, to_z-of_z}
+use Rattle.std.proofs.lemmas.Int.{ints, to_z-of_z}
 use Rattle.std.specs.Int.{int_max, int_min}
 use Rattle.counters.proofs.Spans.{by_bounds}
 use Rattle.counters.proofs.span.Span.commutes.Goals as goal
@@ -9,12 +9,6 @@ returns-then-low-high c =
     let m : c.max-low.result ≡ int_max c.args.self.low c.args.later.low = search (rules, to_z-of_z) in
     let k : c.min-high.result ≡ int_min c.args.self.high c.args.later.high = search (rules, to_z-of_z) in
     grind (arith, ints)
-
-pub overflow_add-still_runs : goal.overflow_add-still_runs
-overflow_add-still_runs c = omega (arith, ints, clamps)
-
-pub overflow_add-still_runs-2 : goal.overflow_add-still_runs-2
-overflow_add-still_runs-2 c = omega (arith, ints, clamps)
 
 pub returns : goal.returns
 returns c =

@@ -1,24 +1,27 @@
-use Rattle.std.proofs.Common.{◌≡◌, Some, None, sym, ap, ◌∙◌, subst, ⊎_elim, arith, rules}
-use Rattle.std.proofs.lemmas.Bool.{cases_eq}
-use Rattle.maps.specs.Days.{held}
-use Rattle.maps.specs.Latest.{IsLatest, latest}
+use Rattle.std.proofs.Common.{◌≡◌, ℕ, ◌+◌, ◌-◌, ◌<◌, List, ℤ, Some, None, Option, sym, refl, ap, ◌∙◌, arith}
+use Rattle.std.specs.Option.{option_map}
+use Rattle.std.proofs.iter.runs.Sources.{inclusive_listed_back}
+use Rattle.std.proofs.lemmas.Grind.{common_steps}
+use Rattle.maps.specs.Latest.{IsLatest}
 use Rattle.maps.specs.Lemmas.Latest.{latest_unique}
 use Rattle.maps.proofs.days.DatedMap.latest.Goals as goal
 
-pub returns-in-Some : goal.returns-in-Some
-returns-in-Some c =
+by_cases : (s : List (Option ℤ)) (d : ℕ) (o : Option (ℕ × ℤ)) → (o ≡ None → IsLatest s d None) → ((x : ℕ × ℤ) → o ≡ Some x → IsLatest s d (Some x)) → IsLatest s d o
+by_cases s d None none some = none refl
+by_cases s d (Some x) none some = some x refl
+
+-- the days that were looked at count down from the day asked for
+pub returns : goal.returns
+returns c =
     let s = c.args.self.now.days in
     let day = c.args.day in
-    let is : IsLatest s day (Some (c.loop-at.at, c.in-Some.value)) = (c.loop-at.auto.at, sym c.in-Some.ensures, c.loop-at.invariant) in
-    subst (λ v. Some (c.loop-at.at, v) ≡ latest s day) (search rules) (latest_unique s day _ is)
-
-pub returns-in_default : goal.returns-in_default
-returns-in_default c =
-    let s = c.args.self.now.days in
-    let day = c.args.day in
-    latest_unique s day None (λ e most. ⊎_elim (λ here. ap (held s) here ∙ sym c.in_default.ensures) (λ ne. c.loop-at.invariant e (omega arith) most) (cases_eq e c.loop-at.at))
-
-pub loop-at-preserved : goal.loop-at-preserved
-loop-at-preserved c e above most =
-    let s = c.args.self.now.days in
-    ⊎_elim (λ here. ap (held s) here ∙ sym c.in_default.ensures) (λ ne. c.loop-at.invariant e (omega arith) most) (cases_eq e c.loop-at.at)
+    let run = c.find_map.ensures.runs.0 in
+    let source = c.rev.ensures.runs run run.seen c.find_map.ensures.runs.1 in
+    let down = inclusive_listed_back source.0 source.0.seen in
+    let last : down.1 ≡ day + 1 = cc in
+    let counts = (down.4 (cc)).0 in
+    let at : (k : ℕ) → k < run.len → option_map (λ y. y) (run.at k) ≡ Some (day - k) =
+    λ k below. ap (option_map (λ y. y)) (sym (source.2.0.2 k)) ∙ counts.3 k (omega arith) ∙ ap Some (omega arith) in
+    latest_unique s day _ (by_cases s day _
+    (λ is e most. grind (arith, common_steps, at (day - e), counts.1))
+    (λ x is. (grind (arith, common_steps), grind (arith, common_steps), λ f above most. grind (arith, common_steps, at (day - f)))))

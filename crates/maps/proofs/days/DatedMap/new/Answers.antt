@@ -7,7 +7,7 @@ use Rattle.maps.proofs.days.DatedMap.new.Goals as goal
 
 pub invariant_of-result : goal.invariant_of-result
 unfolding empty
-invariant_of-result c = record { many = refl; each = empty_days.each }
+invariant_of-result c = record { lawful = empty_days }
 
 pub returns : goal.returns
 unfolding empty

@@ -4,5 +4,4 @@ use Rattle.maps.proofs.object.DatedMapObject.withdraw.Goals as goal
 
 pub restore-requires : goal.restore-requires
 restore-requires c =
-    let write = written_by c.args.record.now c.in-Some.trace c.in-Some-change.change (sym c.in-Some.ensures) c.in-Some-change.is in
-    (write.there, write.fits_before)
+    (written_by c.args.record.now c.in-Some.trace c.in-Some-change.change (sym c.in-Some.ensures) c.in-Some-change.is).fits_before

@@ -1,6 +1,6 @@
-use Rattle.std.proofs.Common.{sym}
-use Rattle.sets.specs.Lemmas.Words.{member_bit}
+use Rattle.std.proofs.Common.{rules}
+use Rattle.sets.specs.Lemmas.Words.{member_bit, member_past}
 use Rattle.sets.proofs.bits.BitSet.has.Goals as goal
 
 pub returns : goal.returns
-returns c = sym (member_bit c.args.self.now.words c.args.key c.requires)
+returns c = search (rules, member_bit, member_past)
