@@ -9,7 +9,7 @@ use std::alloc::{AllocError, Global};
 use trials::law::compare;
 use trials::tried::{Trials, of_counters, push_answered, push_operations, with_values};
 
-// The counts, answers and values stand in `cases_pile` too: `trials`, which both share, knows no kind and no ceiling.
+// The counts, answers and values stand in `cases_pile` too. One table for both would hang `trials` on `counters` for the ceiling, or be a function of it: no plainer.
 const COUNTS: [i64; 10] = [
     0,
     1,
@@ -49,11 +49,12 @@ fn main(rt: HostRuntime) -> anyhow::Result<()> {
     let trials = of_bank(rt.alloc())?;
     let tally = compare(rt.alloc(), &CounterBank::new, &trials)?;
     let count = trials.records.len();
+    // As `report` of `cases_pile` prints it: one line, no plainer as a function of `trials`.
     println!(rt; "counter bank: {count} records; {tally}")?;
     Ok(())
 }
 
-// Each operation with each answer; the first two counters hold one of the counts.
+// Each operation with each answer; the first two counters hold one of the counts. As `of_bank` of `cases_pile`, on other keys: one for both would take six tables, no plainer.
 fn of_bank(heap: Global) -> Result<Trials, AllocError> {
     let mut operations = Vec::new(heap);
     for place in PLACES {

@@ -33,7 +33,7 @@ fn main(rt: HostRuntime) -> anyhow::Result<()> {
     report(&rt, "period lock", new_lock, &lock)
 }
 
-// Prints how many records were tried, how many of their pairs the test passes and refuses, and how often test and law differ.
+// Prints how many records were tried, how many of their pairs the test passes and refuses, and how often test and law differ; in `cases` one line does.
 fn report<O: Object + Drop, F: Fn() -> O>(
     rt: &HostRuntime,
     name: &str,

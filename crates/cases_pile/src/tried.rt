@@ -8,7 +8,7 @@ use sets::bits::KEYS;
 use std::alloc::{AllocError, Global};
 use trials::tried::{Trials, of_counters, operation, push_answered, push_operations, with_values};
 
-// The counts and what is answered of counters stand in `cases` too: `trials`, which both share, knows no kind and no ceiling.
+// The counts and what is answered of counters stand in `cases` too. One table for both would hang `trials` on `counters` for the ceiling, or be a function of it: no plainer.
 const COUNTS: [i64; 10] = [
     0,
     1,
@@ -83,7 +83,7 @@ const DATED: [Answer; 7] = [
     },
 ];
 
-// A bank's operations, and a set's insert, on each of the keys; the counters 3 and 4 hold one of the counts.
+// A bank's operations, and a set's insert, on each of the keys; the counters 3 and 4 hold one of the counts. As `of_bank` of `cases`: one for both would take six tables, no plainer.
 pub fn of_bank(heap: Global, keys: &[u32]) -> Result<Trials, AllocError> {
     let mut operations = Vec::from_slice(heap, &[operation(codes::ADD, 1, 3, 5)])?;
     let codes = [codes::ADD, codes::TAKE, codes::READ, codes::INSERT];

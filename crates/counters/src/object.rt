@@ -14,6 +14,7 @@ use crate::span::commute;
 use objects::object::Object;
 use objects::records::{Answer, Operation, Record};
 
+// A key becomes an index by `as` here and below: there is no `From` for that, and `TryFrom` would bring in a failure that cannot occur, no plainer.
 impl CounterBank {
     // Moves a counter where it stays from 0 to the ceiling, and says whether it did.
     fn shift(&mut self, key: u32, by: i64) -> bool

@@ -65,7 +65,7 @@ fn print_bins(
     Ok(())
 }
 
-// Whether a movement names the bin.
+// Whether a movement names the bin. A key becomes an index by `as`, and an index a key below: there is no `From` for that, and `TryFrom` would bring in a failure that cannot occur, no plainer.
 fn named(postings: &[Posting], bin: usize) -> bool {
     postings
         .iter()

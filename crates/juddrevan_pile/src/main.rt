@@ -27,7 +27,7 @@ fn main(rt: HostRuntime) -> anyhow::Result<ExitCode> {
 }
 
 // The same steps as over the bank. One for both would take as closures what is asked three times and how it is printed: no plainer.
-// What is asked three times comes in three lists, which are zipped where they are printed.
+// The answers come in three lists, zipped where they are printed: one list of rows would be filled in three steps, with gaps until the last, no plainer.
 fn run(rt: &HostRuntime) -> anyhow::Result<()> {
     let mut pile = new_pile();
     println!(rt; "Posted:")?;

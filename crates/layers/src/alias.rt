@@ -16,7 +16,7 @@ pub struct Alias {
 }
 
 impl Alias {
-    // A target from 1,000 on is no key of the object: its alias is answered bad.
+    // A target from 1,000 on is no key of the object: its alias is answered bad. By the rules a target is any number, so it is no option.
     pub fn new(targets: [u32; ALIASES]) -> Alias
         ensures { result.targets ≡ targets }
     {
@@ -24,6 +24,7 @@ impl Alias {
     }
 }
 
+// An alias becomes an index by `as`: there is no `From` for that, and `TryFrom` would bring in a failure that cannot occur, no plainer.
 impl Filter for Alias {
     ghost Fixed = { List ℕ };
 

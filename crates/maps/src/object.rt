@@ -15,6 +15,7 @@ use objects::records::{Answer, Operation, Record};
 use objects::traces;
 use objects::traces::Change;
 
+// A day becomes an index by `as` here and below: there is no `From` for that, and `TryFrom` would bring in a failure that cannot occur, no plainer.
 impl DatedMap {
     // What a day holds; one past the last holds nothing.
     fn content(&self, day: u32) -> Option<i64>

@@ -16,6 +16,7 @@ use objects::traces;
 
 const WORD_BITS: u32 = 64;
 
+// A key becomes an index by `as` here and below: there is no `From` for that, and `TryFrom` would bring in a failure that cannot occur, no plainer.
 impl BitSet {
     fn has(&self, key: u32) -> bool
         ensures { result ≡ member (members_of self.now.words) key }

@@ -10,7 +10,7 @@ use objects::rerun::rerun;
 use std::alloc::{AllocError, Global};
 use std::collections::BTreeSet;
 
-// Two records by their places in the list, the earlier first: one record may stand there twice.
+// Two records by their places in the list, the earlier first. A set of the records would need an order on records, which nothing else asks for: no plainer.
 type Places = (usize, usize);
 
 // Compares the test with the law for every pair of the records. `fresh` makes the object anew for each trial.

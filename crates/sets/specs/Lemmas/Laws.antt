@@ -11,13 +11,13 @@ use Rattle.std.proofs.lemmas.Bool.{both_ways}
 use Rattle.objects.specs.declared.records.Record.{Record}
 use Rattle.objects.specs.declared.traces.Change.{Change}
 use Rattle.objects.specs.declared.traces.Trace.{Trace}
-use Rattle.objects.specs.Kinds.{Laws, PlainWithdrawals, Runs}
-use Rattle.objects.specs.Traces.{looked, showing}
+use Rattle.objects.specs.Kinds.{Laws, PlainWithdrawals, Runs, provided}
+use Rattle.objects.specs.Traces.{looked, restored, reverted, showing}
 use Rattle.objects.proofs.Placed.{Elsewhere, Placed, Proper, Shown, changed, placed_laws, placed_withdrawals}
 use Rattle.sets.specs.declared.trace.Seen.{Seen}
 use Rattle.sets.specs.declared.trace.Seen.TheVariants.{Key, Count}
 use Rattle.sets.specs.Kind.{key_set}
-use Rattle.sets.specs.Members.{Members, empty, keys, member, size}
+use Rattle.sets.specs.Members.{Members, empty, keys, member, size, turned as turned_from}
 use Rattle.sets.specs.Requests.{meant}
 use Rattle.sets.specs.Traces.{shows, trace, turned_key}
 use Rattle.sets.specs.Lemmas.Counted.{first, first_members, size_first, size_set, size_with, size_without, sized}
@@ -143,8 +143,15 @@ runs s r e members is saw = let does_so = does s (meant r.operation) r.answer e 
 fair_trace : (r : Record) (e : Trace Seen Bool) → trace r ≡ Some e → Fair e
 fair_trace r e = fair (meant r.operation) r.answer e (sane r.operation)
 
-turned_by : (r : Record) (e : Trace Seen Bool) (c : Change Bool) → trace r ≡ Some e → e.change ≡ Some c → Turned e c
+pub turned_by : (r : Record) (e : Trace Seen Bool) (c : Change Bool) → trace r ≡ Some e → e.change ≡ Some c → Turned e c
 turned_by r e c is = turned_is e c (fair_trace r e is)
+
+-- the change of a record taken back is a turn of its key
+pub turned_back : (s : List Bool) (r : Record) (e : Trace Seen Bool) (c : Change Bool) → Some e ≡ trace r → e.change ≡ Some c → turned_from s c.place c.after ≡ reverted beq false s (trace r)
+turned_back s r e c has is =
+    ap (λ b. provided (beq (member s c.place) c.after) (slice_set s c.place b)) (sym (turned_by r e c (sym has) is).turns)
+    ∙ ap (restored beq false s) (sym is)
+    ∙ ap (reverted beq false s) has
 
 placed : Placed beq false shows trace Saw key_set
 placed = record {
