@@ -18,19 +18,24 @@ use tried::{of_bank, of_lock, of_map, of_pair, of_set};
 
 fn main(rt: HostRuntime) -> anyhow::Result<()> {
     let heap = rt.alloc();
-    let bank = of_bank(heap, &[3, 4, 32])?;
-    report(&rt, "counter bank", CounterBank::new, &bank)?;
-    let set = of_set(heap)?;
-    report(&rt, "set", BitSet::new, &set)?;
-    let map = of_map(heap, [0, 1, 511])?;
-    report(&rt, "dated map", DatedMap::new, &map)?;
-    let pair = of_pair(heap)?;
-    report(&rt, "pair", new_pair, &pair)?;
     let keys = [3, 4, 999, 1000, 1001, 1002, 1031, 1032];
-    let alias = of_bank(heap, &keys)?;
-    report(&rt, "alias", new_alias, &alias)?;
-    let lock = of_lock(heap, [10, 11, 511], 9)?;
-    report(&rt, "period lock", new_lock, &lock)
+    // Each table of trials goes before the next is made: memory is for one at a time.
+    report(
+        &rt,
+        "counter bank",
+        CounterBank::new,
+        &of_bank(heap, &[3, 4, 32])?,
+    )?;
+    report(&rt, "set", BitSet::new, &of_set(heap)?)?;
+    report(&rt, "dated map", DatedMap::new, &of_map(heap, [0, 1, 511])?)?;
+    report(&rt, "pair", new_pair, &of_pair(heap)?)?;
+    report(&rt, "alias", new_alias, &of_bank(heap, &keys)?)?;
+    report(
+        &rt,
+        "period lock",
+        new_lock,
+        &of_lock(heap, [10, 11, 511], 9)?,
+    )
 }
 
 // Prints how many records were tried, how many of their pairs the test passes and refuses, and how often test and law differ; in `cases` one line does.

@@ -1,5 +1,5 @@
 // The map as an object.
-ghost use Rattle.std.specs.Prelude.{◌≡◌, true, List, ℤ, is_some, Some, None, Option, slice_set};
+ghost use Rattle.std.specs.Prelude.{◌≡◌, ◌<◌, ℕ, true, length, List, ℤ, is_some, Some, None, IfNone, IfSome, Option, slice_set};
 ghost use Rattle.std.specs.Option.{unwrap_or};
 ghost use Rattle.objects.specs.Traces.{restored};
 ghost use Rattle.maps.specs.Days.{fits, held, same_content};
@@ -15,7 +15,7 @@ use objects::records::{Answer, Operation, Record};
 use objects::traces;
 use objects::traces::Change;
 
-// A day becomes an index by `as` here and below: there is no `From` for that, and `TryFrom` would bring in a failure that cannot occur, no plainer.
+// A day becomes an index by `as` here and below, and an index a day: there is no `From` for that, and `TryFrom` would bring in a failure that cannot occur, no plainer.
 impl DatedMap {
     // What a day holds; one past the last holds nothing.
     fn content(&self, day: u32) -> Option<i64>
@@ -55,8 +55,18 @@ impl DatedMap {
     fn latest(&self, day: u32) -> Option<(u32, i64)>
         ensures { result ≡ latest self.now.days day }
     {
-        (0..=day).rev().find_map(|at| Some((at, self.content(at)?)))
+        let last = (day as usize).min(DAYS - 1);
+        let at = last_filled(&self.days[..=last])?;
+        Some((at as u32, self.days[at]?))
     }
+}
+
+// The last of some days that holds a value.
+fn last_filled(days: &[Option<i64>]) -> Option<usize>
+    ensures none { IfNone result ((e : ℕ) → e < length days.now → held days.now e ≡ None) }
+    ensures some { IfSome result (λ i. (i < length days.now) × (is_some (held days.now i) ≡ true) × ((e : ℕ) → i < e → e < length days.now → held days.now e ≡ None)) }
+{
+    days.iter().rposition(|content| content.is_some())
 }
 
 impl Object for DatedMap {

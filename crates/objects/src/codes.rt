@@ -49,8 +49,8 @@ const LAST_DAY: u32 = 511;
 
 const EVERY_KEY: u32 = u32::MAX;
 
-// Each code with its family, the last key that it takes, and whether it changes the state. Ten structs written out would not read as a table.
-const CODES: [(u8, Family, u32, bool); 10] = [
+// Each code with its family, the last key that it takes, and whether it changes the state. Ten structs written out would not read as a table. A constant would be laid out anew at each call.
+static CODES: [(u8, Family, u32, bool); 10] = [
     (ADD, Family::Counter, LAST_COUNTER, true),
     (TAKE, Family::Counter, LAST_COUNTER, true),
     (READ, Family::Counter, LAST_COUNTER, false),

@@ -1,7 +1,7 @@
 // A day: movements are posted on an object, one order's are taken back, and what stands is run again on another object.
 ghost use Rattle.std.specs.Prelude.{◌≡◌, ◌<◌, OnErr, length, true, ◌∷◌, IfOk, filter};
 ghost use Rattle.objects.specs.Leads.{Leads};
-ghost use Rattle.samples.specs.Days.{Asks, Kept, KeptOne, LeadsOnlyTo, Ran, StillLeads, posting_at, records_of, replayed, standing_records};
+ghost use Rattle.samples.specs.Days.{Asks, Kept, KeptOne, LeadsOnlyTo, Ran, StillLeads, posting_at, replayed, standing_records};
 
 use crate::movement::Movement;
 use crate::posting::{BadLine, Outcome, Posting};
@@ -109,33 +109,37 @@ fn take_one<O: Object>(
     ensures leads { StillLeads (O.Object.kind (O.Object.fixed object.old)) (posting.old ∷ later.now) (O.Object.state object.old) (posting.new ∷ later.now) (O.Object.state object.new) }
     ensures keeps { O.Object.fixed object.new ≡ O.Object.fixed object.old }
 {
-    let later = standing(heap, later)?;
-    let records = records(heap, later.as_slice())?;
+    let records = standing(heap, later)?;
     match retract(object, &posting.record, records.as_slice()) {
         Ok(()) => {
             posting.standing = false;
             Ok(Ok(()))
         }
         Err(NotWithdrawn::Inapplicable) => Ok(Err(NotWithdrawn::Inapplicable)),
-        Err(NotWithdrawn::Blocked(at)) => Ok(Err(NotWithdrawn::Blocked(later[at].line))),
+        Err(NotWithdrawn::Blocked(at)) => Ok(Err(NotWithdrawn::Blocked(line_of(later, at)))),
     }
 }
 
-// The postings that still stand.
-fn standing(heap: Global, postings: &[Posting]) -> Result<Vec<Posting>, AllocError>
-    ensures { IfOk result (λ ps. ps.items ≡ filter (λ p. p.standing) postings.now) }
+// The records of the postings that still stand: no copy of the postings beside them, since a long day is asked for them once for each movement that is taken back.
+fn standing(heap: Global, postings: &[Posting]) -> Result<Vec<Record>, AllocError>
+    ensures { IfOk result (λ rs. rs.items ≡ standing_records postings.now) }
 {
     postings
         .iter()
-        .copied()
         .filter(|posting| posting.standing)
+        .map(|posting| posting.record)
         .collect(heap)
 }
 
-fn records(heap: Global, postings: &[Posting]) -> Result<Vec<Record>, AllocError>
-    ensures { IfOk result (λ rs. rs.items ≡ records_of postings.now) }
+// The line of the posting at this place of those that still stand; 0 past the last.
+fn line_of(postings: &[Posting], at: usize) -> usize
+    ensures { result ≡ (posting_at (filter (λ p. p.standing) postings.now) at).line }
 {
-    postings.iter().map(|posting| posting.record).collect(heap)
+    postings
+        .iter()
+        .filter(|posting| posting.standing)
+        .nth(at)
+        .map_or(0, |posting| posting.line)
 }
 
 // Runs what still stands, and nothing else.

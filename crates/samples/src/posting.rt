@@ -12,8 +12,8 @@ use std::fmt;
 pub struct Posting {
     pub line: usize,
     pub order: u16,
-    pub record: Record,
     pub standing: bool,
+    pub record: Record,
 }
 
 impl fmt::Display for Posting {

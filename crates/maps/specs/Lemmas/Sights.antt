@@ -1,9 +1,9 @@
 -- A map's records go by their traces.
-use Rattle.std.specs.Prelude.{◌≡◌, ℕ, ◌<◌, ◌≤◌, true, false, List, ℤ, Some, None, Option, IfSome, slice_set, refl}
+use Rattle.std.specs.Prelude.{◌≡◌, ℕ, ◌<◌, ◌≤◌, true, List, ℤ, Some, None, Option, IfSome, slice_set, refl}
 use Rattle.std.proofs.Common.{sym, ap, subst, ◌∙◌, arith}
 use Rattle.std.proofs.lemmas.List.{set-get_or}
 use Rattle.std.proofs.lemmas.Int.{ints}
-use Rattle.std.proofs.lemmas.Bool.{and_parts}
+use Rattle.std.proofs.lemmas.Bool.{and_from, and_parts}
 use Rattle.std.proofs.lemmas.Bool.Decides.{nat_tests}
 use Rattle.objects.specs.declared.records.Answer.{Answer}
 use Rattle.objects.specs.declared.records.Operation.{Operation}
@@ -70,11 +70,11 @@ saw_day s d before is = (is, λ e above most. absurd (omega arith))
 
 -- a day that is written, by what it held
 written_told : (s : List (Option ℤ)) (m : Option Request) (d : ℕ) (else : Answer) (after c : Option ℤ) →
-    ((a : Answer) → traced m a ≡ written_as d else after a) → ((w : ℤ) → same (old w) else ≡ false) → held s d ≡ c → fits c ≡ true → Told s m (replaced else c, slice_set s d after)
-written_told s m d else after None traced_as other is right =
-    (wrote d None after, (grind (arith, traced_as else, same_refl else), (saw_day s d None is, wrote_changed s d None after is)))
-written_told s m d else after (Some w) traced_as other is right =
-    (wrote d (Some w) after, (grind (arith, traced_as (old w), other w, same_refl (old w)), (saw_day s d (Some w) is, wrote_changed s d (Some w) after is)))
+    traced m else ≡ Some (wrote d None after) → ((w : ℤ) → is_old (old w) ≡ true → traced m (old w) ≡ Some (wrote d (Some w) after)) →
+    held s d ≡ c → fits c ≡ true → Told s m (replaced else c, slice_set s d after)
+written_told s m d else after None first second is right = (wrote d None after, (first, (saw_day s d None is, wrote_changed s d None after is)))
+written_told s m d else after (Some w) first second is right =
+    (wrote d (Some w) after, (second w (and_from _ _ (same_refl (old w)) right), (saw_day s d (Some w) is, wrote_changed s d (Some w) after is)))
 
 found_told : (s : List (Option ℤ)) (d : ℕ) (o : Option (ℕ × ℤ)) → d < day_count → Days s → IsLatest s d o → Told s (Some (Find d)) (found_at o, s)
 found_told s d None h lawful is = (looked (Some (window 0 d None)), (refl, ((is 0 (omega arith), λ e above most. is e most), refl)))
@@ -85,8 +85,10 @@ found_told s d (Some x) h lawful is =
     (saw, (ap (λ b. provided b saw) can, ((is.1, is.2), refl)))
 
 pub told : (s : List (Option ℤ)) (m : Option Request) → IfSome m Sane → Days s → Told s m (did s m)
-told s (Some (Put d v)) h lawful = written_told s (Some (Put d v)) d new (Some v) (held s d) (λ a. refl) (λ w. refl) refl (lawful.each d h.0)
-told s (Some (Drop d)) h lawful = written_told s (Some (Drop d)) d absent None (held s d) (λ a. refl) (λ w. refl) refl (lawful.each d h)
+told s (Some (Put d v)) h lawful =
+    written_told s (Some (Put d v)) d new (Some v) (held s d) refl (λ w can. ap (λ b. provided b (wrote d (Some w) (Some v))) can) refl (lawful.each d h.0)
+told s (Some (Drop d)) h lawful =
+    written_told s (Some (Drop d)) d absent None (held s d) refl (λ w can. ap (λ b. provided b (wrote d (Some w) None)) can) refl (lawful.each d h)
 told s (Some (Find d)) h lawful = found_told s d (latest s d) h lawful (latest_right s d)
 told s None h lawful = (looked None, (refl, (tt, refl)))
 
@@ -94,12 +96,16 @@ told s None h lawful = (looked None, (refl, (tt, refl)))
 abbrev pub Does : List (Option ℤ) → Option Request → Answer → Trace Window (Option ℤ) → Type 0
 Does s m a e = Saw e.saw s → ((did s m).0 ≡ a) × ((did s m).1 ≡ changed s e.change)
 
+writes : (s : List (Option ℤ)) (d : ℕ) (else a : Answer) (before after : Option ℤ) → same a (replaced else before) ≡ true → held s d ≡ before →
+    (replaced else (held s d) ≡ a) × (slice_set s d after ≡ changed s (wrote d before after).change)
+writes s d else a before after answer is = (ap (replaced else) is ∙ sym (same_true a (replaced else before) answer), wrote_changed s d before after is)
+
 written_does : (s : List (Option ℤ)) (d : ℕ) (else : Answer) (after : Option ℤ) (a : Answer) (e : Trace Window (Option ℤ)) → written_as d else after a ≡ Some e → Saw e.saw s →
     (replaced else (held s d) ≡ a) × (slice_set s d after ≡ changed s e.change)
 written_does s d else after a e =
     either_both (same a else) (is_old a) _ _ (λ f. Saw f.saw s → (replaced else (held s d) ≡ a) × (slice_set s d after ≡ changed s f.change))
-    (λ answer saw. (ap (replaced else) saw.0 ∙ sym (same_true a else answer), wrote_changed s d None after saw.0))
-    (λ answer saw. (ap (replaced else) saw.0 ∙ sym (same_true a (old a.value) (and_parts _ _ answer).0), wrote_changed s d (Some a.value) after saw.0))
+    (λ answer saw. writes s d else a None after answer saw.0)
+    (λ answer saw. writes s d else a (Some a.value) after (and_parts _ _ answer).0 saw.0)
     e
 
 pub does : (s : List (Option ℤ)) (m : Option Request) (a : Answer) (e : Trace Window (Option ℤ)) → traced m a ≡ Some e → Does s m a e

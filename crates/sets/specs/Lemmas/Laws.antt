@@ -23,7 +23,7 @@ use Rattle.sets.specs.Traces.{shows, trace, turned_key}
 use Rattle.sets.specs.Lemmas.Counted.{first, first_members, size_first, size_set, size_with, size_without, sized}
 use Rattle.sets.specs.Lemmas.Sights.{Fair, Saw, Told, blind, counted, does, fair, sane, saw_key, told, turned}
 
-not_itself : (b : Bool) → b ≢ not b
+pub not_itself : (b : Bool) → b ≢ not b
 not_itself b e = grind (arith, booleans_Decides)
 
 -- a set in which a key is a member, or isn't
